@@ -5,6 +5,8 @@ Needs    readings.py, ledger.py and random_scenarios.py beside it, and for `--co
          (cd crates/marlowe && rt run -- --version)
 Usage    plays.py SCENARIO                      prints what `marlowe play --one SCENARIO` has to print
          plays.py --explain SCENARIO            the same of `marlowe play --one --explain SCENARIO`
+         plays.py --json SCENARIO               the same of `marlowe play --one --json SCENARIO`
+         plays.py --strict SCENARIO [NAME ..]   `well` or `not well`, as `marlowe play --one --strict` has status 0 or 3; threads with these names may stay open
          plays.py --replay SCENARIO PRINTED     makes the calls of a printed play again, in its order
          plays.py --compare N SEED PROGRAM      compares the program on N random scenarios, played on one thread and on many
          plays.py --race N SEED PROGRAM         has the program play N times, with ten plans of a hundred steps each that race for twenty threads
@@ -26,6 +28,7 @@ import sys
 import tempfile
 
 sys.path.insert(0, os.path.dirname(os.path.abspath(__file__)))
+import interpreter
 import ledger
 import random_scenarios
 import readings
@@ -51,13 +54,14 @@ class Play:
             raise Refused(f"refused scenario {fault}") from None
         genesis = [ledger.Output(("key", funds["address"]), ledger.amount(funds["amount"])) for funds in self.scenario["genesis"]]
         self.chain, self.lines, self.starts = ledger.Chain(genesis, self.scenario["tick"]), [], []
-        self.notes = collections.defaultdict(list)
+        self.replies, self.taken, self.intents_told = [], {}, [Told(plan) for plan in self.scenario["plans"]]
         self.answered = collections.Counter()
 
     def answer(self, seat, call):
         """Makes a call for a seat, and its line."""
         reply = self.chain.call(*call)
-        self.notes[len(self.lines)] += refusals(reply.text)
+        self.replies.append((seat, self.answered[seat], reply.text))
+        self.taken.update((int(ticket), (len(self.lines), verdict == "accepted")) for ticket, verdict in tickets(reply.text))
         self.lines.append(f"{len(self.lines)} {seat}.{self.answered[seat]} {reply.text}")
         self.answered[seat] += 1
         return reply
@@ -68,38 +72,125 @@ class Play:
         return self.lines + threads + [f"entries {len(self.lines)}"]
 
     def explained(self):
-        """The same with notes behind the entries, and with who holds what."""
+        """The same with what is told behind the entries, how each intent ended, and who holds what."""
+        notes = self.noted([refusals(reply) for _, _, reply in self.replies], self.unbuilt_lines, self.step_lines)
         lines = self.whole()
-        noted = [line for place, entry in enumerate(self.lines) for line in [entry] + ["    " + note for note in self.notes[place]]]
-        return noted + lines[len(self.lines):] + self.holdings()
+        noted = [line for place, entry in enumerate(self.lines) for line in [entry] + ["    " + note for note in notes[place]]]
+        return noted + lines[len(self.lines):] + self.endings() + self.holdings()
+
+    def objects(self):
+        """The same, an object a line."""
+        entries = [[{"entry": place, "seat": seat, "number": number, **reply_members(reply)}] for place, (seat, number, reply) in enumerate(self.replies)]
+        told = [each for notes in self.noted(entries, self.unbuilt_objects, self.step_objects) for each in notes]
+        for thread, start in zip(self.scenario["threads"], self.starts):
+            steps, end = self.chain.spine(start)
+            told.append({"thread": thread["name"], "steps": steps, "closed": not end})
+        told.append({"entries": len(self.lines)})
+        for seat, (plan, each) in enumerate(zip(self.scenario["plans"], self.intents_told), 1):
+            told += [{"plan": plan["name"], "seat": seat, "place": place, "intent": self.intent_members(intent), **ending_members(self.ending(each.ended(place)))}
+                     for place, intent in enumerate(plan["intents"])]
+        told += [{**self.holder_members(holder), "token": ledger.token_json(of), "amount": interpreter.wide(number)} for holder, of, number in self.held()]
+        return [json.dumps(each, separators=(",", ":"), ensure_ascii=False) for each in told]
+
+    def is_well(self, kept_open=()):
+        """Whether each intent is done and each thread closed, but for those that may stay open."""
+        done = all(self.ending(told.ended(place)).startswith("done at ")
+                   for plan, told in zip(self.scenario["plans"], self.intents_told) for place in range(len(plan["intents"])))
+        return done and all(thread["name"] in kept_open or not self.chain.spine(start)[1] for thread, start in zip(self.scenario["threads"], self.starts))
+
+    def noted(self, notes, unbuilt, stepped):
+        """What is told behind each entry: these notes, then of each plan what was left out, and what its steps did."""
+        for told in self.intents_told:
+            for place, intent, looks, fault in told.unbuilt:
+                notes[place] = notes[place] + unbuilt(place, intent, looks, fault)
+            for ending, intent, looks in told.steps:
+                place = self.done_at(ending)
+                if place is not None:
+                    notes[place] = notes[place] + stepped(place, intent, looks)
+        return notes
+
+    def done_at(self, ending):
+        """The place of the entry at which something was done: of what was pooled that of the round."""
+        if isinstance(ending, int):
+            place, accepted = self.taken.get(ending, (None, False))
+            return place if accepted else None
+        return int(ending.removeprefix("done at "))
+
+    def endings(self):
+        return [f"plan {ledger.compact(plan['name'])} {self.intent_text(intent)}: {self.ending(told.ended(place))}"
+                for plan, told in zip(self.scenario["plans"], self.intents_told) for place, intent in enumerate(plan["intents"])]
+
+    def ending(self, ending):
+        """The ending of an intent: a ticket for what was pooled."""
+        if isinstance(ending, str):
+            return ending
+        if ending not in self.taken:
+            return f"in the pool, ticket {ending}"
+        place, accepted = self.taken[ending]
+        return f"done at {place}" if accepted else f"refused in round at {place}, ticket {ending}"
+
+    def thread_text(self, place):
+        return ledger.compact(self.scenario["threads"][place]["name"])
 
     def intent_text(self, intent):
+        if "round" in intent:
+            return f"round {intent['round']}"
+        if "advance" in intent:
+            return f"advance {intent['advance']}"
         if "claim" in intent:
             return f"claim {ledger.compact(self.scenario['contracts'][intent['claim']]['name'])} {ledger.compact(intent['role'])}"
-        names = [ledger.compact(self.scenario["threads"][step["step"]]["name"]) for step in steps_of(intent)]
-        return " ".join(["steps" if "steps" in intent else "step"] + names)
+        return " ".join(["steps" if "steps" in intent else "step"] + [self.thread_text(step["step"]) for step in steps_of(intent)])
 
-    def leave_out(self, intent, looks, fault):
-        """The note of an intent on which nothing was built, behind its last look."""
+    def intent_members(self, intent):
+        if "round" in intent:
+            return {"round": intent["round"]}
+        if "advance" in intent:
+            return {"advance": intent["advance"]}
+        if "claim" in intent:
+            return {"claim": self.scenario["contracts"][intent["claim"]]["name"], "role": intent["role"]}
+        names = [self.scenario["threads"][step["step"]]["name"] for step in steps_of(intent)]
+        return {"steps": names} if "steps" in intent else {"step": names[0]}
+
+    def unbuilt_lines(self, place, intent, looks, fault):
+        """What hindered an intent, in words."""
         if "claim" in intent and fault == "NoThread":
-            cause = "nothing to claim"
+            return [f"{self.intent_text(intent)}: nothing to claim"]
+        return [f"{self.intent_text(intent)}: not built: {fault}: {build_words(intent, looks, fault)}"]
+
+    def unbuilt_objects(self, place, intent, looks, fault):
+        if "claim" in intent and fault == "NoThread":
+            why = {"why": "nothing to claim"}
         else:
-            cause = f"not built: {fault}: {build_words(intent, looks, fault)}"
-        if "claim" in intent or steps_of(intent):
-            self.notes[len(self.lines) - 1].append(f"{self.intent_text(intent)}: {cause}")
+            why = {"fault": fault, "why": build_words(intent, looks, fault)}
+        return [{"left_out": self.intent_members(intent), "entry": place, **why}]
+
+    def step_lines(self, place, intent, looks):
+        """What the steps of an intent did, by its looks."""
+        return [f"step {self.thread_text(step['step'])}: {line}" for look, step in self.stepped(intent, looks)
+                for line in step_lines(look, interval_of(intent), step["inputs"])]
+
+    def step_objects(self, place, intent, looks):
+        return [{"step": self.scenario["threads"][step["step"]]["name"], "entry": place, **step_members(look, interval_of(intent), step["inputs"])}
+                for look, step in self.stepped(intent, looks)]
+
+    def stepped(self, intent, looks):
+        return [] if "claim" in intent else zip(looks, steps_of(intent))
 
     def steps(self, start):
         steps, end = self.chain.spine(start)
         return f"steps {steps} {'open' if end else 'closed'}"
 
     def holdings(self):
-        """Who holds what at the end, a line for each holder and token: of a contract the first thread that a look shows there."""
+        return [f"{self.told(holder)} {token_text(of)} {number}" for holder, of, number in self.held()]
+
+    def held(self):
+        """Who holds what at the end: of a contract the first thread that a look shows there."""
         ends = [self.chain.spine(start)[1] for start in self.starts]
         held = collections.Counter()
         for reference, output in self.chain.unspent.items():
             for of, number in output.amount.items():
                 held[self.holder(ends, reference, output.lock), of] += number
-        return [f"{self.told(holder)} {token_text(of)} {number}" for (holder, of), number in sorted(held.items()) if number > 0]
+        return [(holder, of, number) for (holder, of), number in sorted(held.items()) if number > 0]
 
     def holder(self, ends, reference, lock):
         if lock[0] == "key":
@@ -115,6 +206,14 @@ class Play:
         if kind == 1:
             return f'unclaimed "{first.hex()}" {text_json(second)}'
         return f"in thread {ledger.compact(self.scenario['threads'][first]['name'])}"
+
+    def holder_members(self, holder):
+        kind, first, second = holder
+        if kind == 0:
+            return {"holds": first.decode()}
+        if kind == 1:
+            return {"unclaimed": first.hex(), "role": second.decode()}
+        return {"in_thread": self.scenario["threads"][first]["name"]}
 
     # The calls of a seat, one after the other; each is sent its reply.
 
@@ -137,38 +236,54 @@ class Play:
         contract = self.scenario["contracts"][place]
         return self.chain.published[ledger.script_id(contract["contract"], bytes.fromhex(contract["currency"]))]
 
-    def plan(self, plan):
+    def plan(self, plan, told):
         """The calls of a plan's seat, up to where it stops."""
-        return stopped(self.intents(plan), plan["stop_after"])
+        return stopped(self.intents(plan, told), plan["stop_after"])
 
-    def intents(self, plan):
-        for intent in plan["intents"]:
-            yield from self.intent(plan, intent)
+    def intents(self, plan, told):
+        for place, intent in enumerate(plan["intents"]):
+            told.endings[place] = yield from self.intent(plan, intent, told)
 
-    def intent(self, plan, intent):
+    def intent(self, plan, intent, told=None):
+        """Makes the calls of an intent: how it ended. Where nobody is told, what hindered it is dropped."""
+        told = told or Told(plan)
         if "round" in intent:
             yield "round", intent["round"]
-        elif "advance" in intent:
-            yield "advance", intent["advance"]
-        else:
-            yield from self.tried(plan, intent)
+            return self.at("done")
+        if "advance" in intent:
+            reply = yield "advance", intent["advance"]
+            return self.at(reply.text.removeprefix("advance ").replace("advanced", "done"))
+        return (yield from self.tried(plan, intent, told))
 
-    def tried(self, plan, intent):
-        """Looks at all that is asked for, builds and submits, again where an output was spent meanwhile; or enqueues, once."""
+    def at(self, word):
+        """What happened at the last entry."""
+        return f"{word} at {len(self.lines) - 1}"
+
+    def tried(self, plan, intent, told):
+        """Looks at all that is asked for, builds and submits, again where an output was spent meanwhile; or enqueues, once. How it ended."""
         pool = intent.get("pool", False)
         for _ in range(1 + AGAIN):
-            looks = []
+            looks, last = [], None
             for ask in self.asks(plan, intent):
                 reply = yield "look", ask
                 looks.append(reply.look)
+                last = len(self.lines) - 1
             try:
                 transaction = built(plan, intent, looks)
             except ledger.Hindered as fault:
-                self.leave_out(intent, looks, str(fault))
-                return
+                if looks:
+                    told.unbuilt.append((last, intent, looks, str(fault)))
+                return "nothing to claim" if "claim" in intent and str(fault) == "NoThread" else "not built"
             reply = yield "enqueue" if pool else "submit", transaction
-            if pool or not (reply.fault or "").startswith("NotUnspent"):
-                return
+            if reply.text == "enqueue full":
+                return self.at("pool full")
+            if pool or not reply.fault:
+                ending = int(reply.text.removeprefix("enqueue ticket ")) if pool else self.at("done")
+                told.steps.append((ending, intent, looks))
+                return ending
+            if not reply.fault.startswith("NotUnspent"):
+                return self.at("refused")
+        return self.at("given up")
 
     def asks(self, plan, intent):
         """What an intent asks to be shown: several steps ask for each of their threads."""
@@ -176,6 +291,48 @@ class Play:
             currency = bytes.fromhex(self.scenario["contracts"][intent["claim"]]["currency"])
             return [ledger.Ask(None, plan["keys"], [(currency, intent["role"])])]
         return [ledger.Ask(self.starts[step["step"]], plan["keys"], []) for step in steps_of(intent)]
+
+
+class Told:
+    """What is told of a plan: how its intents ended, what hindered some of them, behind which entry, and what its steps did."""
+
+    def __init__(self, plan):
+        self.plan, self.endings, self.unbuilt, self.steps = plan, {}, [], []
+
+    def ended(self, place):
+        """A plan that stopped builds no more; only of steps of no thread the builder is asked."""
+        return self.endings.get(place, "not built" if self.plan["intents"][place].get("steps") == [] else "stopped")
+
+
+def ending_members(ending):
+    """How an intent ended, as members of an object."""
+    found = re.fullmatch("(.+?)(?: at ([0-9]+))?(?:, ticket ([0-9]+))?", ending)
+    numbers = {"entry": found[2], "ticket": found[3]}
+    return {"ended": found[1], **{key: int(number) for key, number in numbers.items() if number}}
+
+
+def refusal_members(fault):
+    return {"reply": "refused", "fault": fault, "why": rule_words(fault)}
+
+
+def ticket_object(ticket, verdict):
+    return {"ticket": int(ticket), **({"reply": "accepted"} if verdict == "accepted" else refusal_members(verdict.removeprefix("refused ")))}
+
+
+def reply_members(reply):
+    """A call and its reply, as members of an object."""
+    call, _, told = reply.partition(" ")
+    if call == "look":
+        return {"call": call, "reply": "shown", "tick": int(told.removeprefix("tick "))}
+    if call == "round":
+        return {"call": call, "reply": "taken", "tickets": [ticket_object(ticket, verdict) for ticket, verdict in tickets(reply)]}
+    if told.startswith("ticket "):
+        return {"call": call, "reply": "pooled", "ticket": int(told.removeprefix("ticket "))}
+    if call == "submit" and told != "accepted":
+        return {"call": call, **refusal_members(told.removeprefix("refused "))}
+    if told.startswith("refused "):
+        return {"call": call, "reply": "refused", "fault": told.removeprefix("refused ")}
+    return {"call": call, "reply": told, **({"why": refusals(reply)[0]} if told in ("full", "backward") else {})}
 
 
 RULES = {
@@ -212,15 +369,93 @@ def rule_words(fault):
     return RULES[name].format(of)
 
 
+def tickets(reply):
+    """The tickets that a round took, each with its verdict."""
+    return re.findall("([0-9]+) (accepted|refused [A-Za-z]+(?: [0-9]+)?)", reply.removeprefix("round ")) if reply.startswith("round ") else []
+
+
 def refusals(reply):
-    """The notes of a reply, which it has where something was refused."""
+    """What is told of a reply: of each refusal the rule, in words."""
     if reply == "advance backward":
         return ["the tick is later already"]
     if reply == "enqueue full":
         return ["the pool has 1024 transactions, and takes no more"]
     if reply.startswith("submit refused "):
         return [rule_words(reply.removeprefix("submit refused "))]
-    return [f"ticket {place}: {rule_words(fault)}" for place, fault in re.findall("([0-9]+) refused ([A-Za-z]+(?: [0-9]+)?)", reply) if reply.startswith("round ")]
+    return [f"ticket {ticket}: {rule_words(verdict.removeprefix('refused '))}" for ticket, verdict in tickets(reply) if verdict != "accepted"]
+
+
+def interval_of(intent):
+    return {"from": intent["from"], "to": intent["to"]}
+
+
+def sorted_json(form):
+    """A form whose objects have their keys in the order of their bytes."""
+    return json.loads(ledger.compact(form))
+
+
+def step_members(look, interval, inputs):
+    """What a step did, as members of an object."""
+    run, left = ledger.run_of(look.thread, interval, inputs)
+    outcome = sorted_json(interpreter.outcome_of(run, left))
+    told = {"payments": outcome["payments"], "warnings": outcome["warnings"], "waits_for": [], "waits_until": None}
+    if left != "close":
+        state = interpreter.state_json(run, int)
+        at = max(look.tick, state["minTime"])
+        machine = interpreter.Transaction(state, {"from": at, "to": at})
+        told["waits_for"] = [waited_object(machine, case["case"]) for case in left["when"]]
+        told["waits_until"] = left["timeout"] - 1
+    return told
+
+
+def or_null(number, value):
+    """A number or a truth, or None where a number leaves 128 bits."""
+    try:
+        return number(value)
+    except interpreter.Refused:
+        return None
+
+
+def waited_object(machine, action):
+    if "deposits" in action:
+        number = or_null(machine.value, action["deposits"])
+        return {"deposit": None if number is None else interpreter.wide(number), "token": sorted_json(action["of_token"]),
+                "by": sorted_json(action["party"]), "into": sorted_json(action["into_account"])}
+    if "for_choice" in action:
+        choice = action["for_choice"]
+        return {"choose": choice["choice_name"], "of": sorted_json(choice["choice_owner"]),
+                "bounds": [{"from": interpreter.wide(each["from"]), "to": interpreter.wide(each["to"])} for each in action["choose_between"]]}
+    return {"notify": or_null(machine.holds, action["notify_if"])}
+
+
+def step_lines(look, interval, inputs):
+    """What a step did: its payments, its warnings, and what its contract waits for then."""
+    run, left = ledger.run_of(look.thread, interval, inputs)
+    told = [f"pays {number} {token_text((of[0], of[1].encode()))} from {ledger.compact(interpreter.party_json(source))}"
+            f" to {ledger.compact(interpreter.payee_json(target))}" for source, target, of, number in run.payments]
+    told += [f"warns {warning['warning']}" for warning in run.warnings]
+    if left == "close":
+        return told + ["closed"]
+    state = interpreter.state_json(run, int)
+    at = max(look.tick, state["minTime"])
+    for case in left["when"]:
+        told += waited(interpreter.Transaction(state, {"from": at, "to": at}), case["case"])
+    return told + [f"waits until {left['timeout'] - 1}"]
+
+
+def waited(machine, action):
+    """What a case waits for, as a list of one line or none."""
+    try:
+        if "deposits" in action:
+            who = f"by {ledger.compact(action['party'])} into {ledger.compact(action['into_account'])}"
+            return [f"waits for deposit {machine.value(action['deposits'])} {token_text(ledger.token(action['of_token']))} {who}"]
+        if "for_choice" in action:
+            choice = action["for_choice"]
+            bounds = ", ".join(str(each["from"]) if each["from"] == each["to"] else f"{each['from']} to {each['to']}" for each in action["choose_between"])
+            return [f"waits for choose {ledger.compact(choice['choice_name'])} of {ledger.compact(choice['choice_owner'])}: {bounds}"]
+        return ["waits for notify"] if machine.holds(action["notify_if"]) else []
+    except interpreter.Refused as fault:
+        return [f"waits for deposit {who}: {fault}" if "deposits" in action else f"waits for notify: {fault}"]
 
 
 def text_json(text):
@@ -267,13 +502,19 @@ def next_call(calls, reply):
         return None
 
 
-def played(text, explain=False):
-    """The lines of a play whose plans take turns, each whole, on one thread, and who holds what at its end."""
+def in_turn(text):
+    """A play whose plans take turns, each whole, on one thread."""
     play = Play(text)
     run_whole(play, 0, play.setup())
     for place, plan in enumerate(play.scenario["plans"]):
-        run_whole(play, place + 1, play.plan(plan))
-    return play.explained() if explain else play.whole()
+        run_whole(play, place + 1, play.plan(plan, play.intents_told[place]))
+    return play
+
+
+def played(text, explain=False):
+    """The lines of such a play; explained, with what stands behind them and at the end; or as objects, an object a line."""
+    play = in_turn(text)
+    return play.objects() if explain == "json" else play.explained() if explain else play.whole()
 
 
 def run_whole(play, seat, calls):
@@ -299,8 +540,8 @@ class Seats:
 
     def begin_plans(self):
         if len(self.calls) == 1 and self.next[0] is None:
-            for plan in self.play.scenario["plans"]:
-                self.add(self.play.plan(plan))
+            for plan, told in zip(self.play.scenario["plans"], self.play.intents_told):
+                self.add(self.play.plan(plan, told))
 
     def answer(self, seat):
         """Makes a seat's next call. Whether it has one."""
@@ -362,6 +603,12 @@ def run(program, *words):
     return done.stdout.decode(), done.stderr.decode(), done.returncode
 
 
+def first_line(streams):
+    """Standard error without the lines that explain a refusal."""
+    printed, told, status = streams
+    return printed, "".join(told.splitlines(True)[:1]), status
+
+
 def compare(count, seed, program):
     told = collections.Counter()
     with tempfile.TemporaryDirectory() as folder:
@@ -373,7 +620,7 @@ def compare(count, seed, program):
             want, got = wanted(text), run(program, path, "--one")
             if want != got:
                 differs(seed, number, text, want, got)
-            more, got = wanted(text, True), run(program, path, "--one", "--explain")
+            more, got = wanted(text, True), first_line(run(program, path, "--one", "--explain"))
             if more != got:
                 differs(seed, number, text, more, got)
             many = run(program, path)
@@ -463,9 +710,13 @@ def main(words):
         with open(words[1], "rb") as scenario, open(words[2], "rb") as printed:
             print("replayed", replayed(scenario.read(), lines_of(printed.read())), "entries")
         return None
-    explain = words[0] == "--explain"
-    with open(words[explain], "rb") as file:
-        output, refusal, status = wanted(file.read(), explain)
+    face = {"--explain": True, "--json": "json"}.get(words[0], False)
+    if words[0] == "--strict":
+        with open(words[1], "rb") as file:
+            print("well" if in_turn(file.read()).is_well(words[2:]) else "not well")
+        return None
+    with open(words[bool(face)], "rb") as file:
+        output, refusal, status = wanted(file.read(), face)
     sys.stdout.write(output)
     sys.stderr.write(refusal)
     sys.exit(status)

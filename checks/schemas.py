@@ -10,7 +10,7 @@ The texts: those of the examples, the gallery, the tutorial and the plays in cra
 them spoiled in the ways of spoiled.py, and texts with the keys of two forms, of which the first counts. Asked is:
 - that a text which is read has the schema's form, and one that is NoForm has not. Of other faults (a number that isn't whole, a time beyond its range, bytes
   that aren't hexadecimal, an account of 0, a merkleized case) a schema may say either. It doesn't know which names a scenario has.
-- that an outcome, an answer of `next --json` and one of `analyse --json` has its form; and that it has none once a key of it is taken away.
+- that an outcome, an answer of `next --json`, `table --json` and `analyse --json`, and a refusal has its form; and that it has none once a key of it is taken away.
 
 A schema is JSON Schema, draft 7, of these words alone, which are checked here: `type`, `required`, `properties`, `items`, `minItems`, `maxItems`, `enum`, `pattern`,
 `if`, `then`, `else`, `$ref`, and `definitions`, `title`, `$schema` beside them. As that draft says, what stands beside a `$ref` is passed over.
@@ -243,7 +243,12 @@ def fault_of_text(sort, value):
 # ---- texts that are printed
 
 def printed():
-    """Answers of the program, as the rows have them, with the schema of each."""
+    """Answers of the program, as the rows have them, with the schema of each: a refusal has its own, whatever was asked."""
+    for name, text in answers():
+        yield "refusal.json" if text.startswith('{"refused":') else name, text
+
+
+def answers():
     for path in sorted(DATA.rglob("output.json")):
         yield "outcome.json", path.read_text()
     for path in sorted(DATA.rglob("*.txt")):
@@ -253,8 +258,12 @@ def printed():
                 continue
             if words[0] in ("run", "trace") or words[:2] in (["marlowe", "run"], ["marlowe", "trace"]):
                 yield from (("outcome.json", each) for each in answer)
+            elif words[:2] == ["marlowe", "table"]:
+                yield "table.json", answer[0]
             elif words[:2] == ["marlowe", "next"] and "--json" in words:
                 yield "next.json", answer[0]
+            elif words[:2] == ["marlowe", "play"] and "--json" in words:
+                yield from (("play.json", each) for each in answer)
             elif words[0] == "json" or words[:2] == ["marlowe", "analyse"] and "--json" in words:
                 yield "analysis.json", answer[0]
 

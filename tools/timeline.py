@@ -2,13 +2,15 @@
 """Draws what `marlowe play` prints: who called when, what came of it, and how far each thread is.
 
 Needs    nothing but Python.
-Usage    marlowe play scenario.json --one | tools/timeline.py > play.svg                     draws the lines alone
+Usage    marlowe play scenario.json --one --json | tools/timeline.py > play.svg              draws all that the objects tell
+         marlowe play scenario.json --one | tools/timeline.py > play.svg                     draws the lines alone
          marlowe play scenario.json --one | tools/timeline.py --scenario scenario.json       draws also what the scenario says of them
          tools/timeline.py lines.txt ..                                                      takes the lines from a file
 Expect   a picture in SVG. Time goes down: a row for each entry, with its number, and the tick where it changes. There is a lane for the
          setup and for each plan, which has the plan's calls; a call that was refused is red. From a scenario come the names of the plans, and
          what each call was for; then each thread has a lane as well, which begins at its start, has each accepted step with its number, and
-         ends where the contract is closed. Without one, the threads' last states stand below.
+         ends where the contract is closed. Objects tell as much, and also what hindered an intent. With neither, the threads' last states
+         stand below.
 Else     one line on standard error: status 1 for lines that are no play, or not one of this scenario; 2 for a command line or a file at fault.
 """
 import json
@@ -62,6 +64,61 @@ def read(text):
     if lines[-1] != f"entries {len(entries)}":
         raise NoPlay(lines[-1])
     return entries, threads
+
+
+# ---- reading objects
+
+def told_of_members(entry):
+    """A call and its reply as the lines have them."""
+    call, reply = entry["call"], entry["reply"]
+    if call == "look":
+        return f"look tick {entry['tick']}"
+    if call == "round":
+        return "round " + (", ".join(f"{each['ticket']} {told_of_reply(each)}" for each in entry["tickets"]) or "none")
+    return f"{call} ticket {entry['ticket']}" if reply == "pooled" else f"{call} {told_of_reply(entry)}"
+
+
+def told_of_reply(told):
+    return f"refused {told['fault']}" if told["reply"] == "refused" else told["reply"]
+
+
+def read_objects(text):
+    """The entries, the threads, and the names of the plans by their seats."""
+    objects = [json.loads(line) for line in text.splitlines()]
+    entries = [Entry(each["entry"], each["seat"], told_of_members(each)) for each in objects if "number" in each]
+    threads = [(each["thread"], each["steps"], "closed" if each["closed"] else "open") for each in objects if "thread" in each]
+    if [each["entries"] for each in objects if "entries" in each] != [len(entries)] or any(entry.number != place for place, entry in enumerate(entries)):
+        raise NoPlay("the entries aren't all there")
+    tell_setup([entry for entry in entries if entry.seat == 0], [name for name, _, _ in threads])
+    plans = {each["seat"]: each["plan"] for each in objects if "plan" in each}
+    for each in objects:
+        if "left_out" in each:
+            entry, fault = entries[each["entry"]], each["fault"].split(" ")[0] if "fault" in each else each["why"]
+            entry.subject, entry.result = f"look for {told_of_intent(each['left_out'])}", f"{entry.result}, nothing is built: {fault}"
+        elif "step" in each:
+            entries[each["entry"]].steps.append(each["step"])
+        elif "plan" in each and "entry" in each and is_of(entries[each["entry"]], each):
+            entries[each["entry"]].subject = told_of_intent(each["intent"])
+    return entries, threads, plans
+
+
+def tell_setup(calls, names):
+    """The accepted Submits of the setup start the threads, in order."""
+    starts = [place for place, entry in enumerate(calls) if entry.told == "submit accepted"]
+    for name, place in zip(names, starts):
+        calls[place].subject, calls[place].steps = f"start {name}", [name]
+        calls[place - 1].subject = f"look for {name}"
+
+
+def is_of(entry, ended):
+    """Whether the entry at which an intent ended is a call of its own: a round takes what others put into the pool."""
+    return not entry.told.startswith("round ") or "round" in ended["intent"]
+
+
+def told_of_intent(intent):
+    if "steps" in intent:
+        return f"steps {', '.join(intent['steps'])}"
+    return f"claim as {intent['role']}" if "claim" in intent else " ".join(f"{key} {value}" for key, value in intent.items())
 
 
 # ---- which call is of which intent
@@ -206,14 +263,14 @@ class Box:
 
 
 class Picture:
-    def __init__(self, entries, threads, scenario):
+    def __init__(self, entries, threads, scenario, names=None):
         self.entries, self.threads, self.scenario = entries, threads, scenario
         plans = [plan["name"] for plan in scenario["plans"]] if scenario else []
         last = max([entry.seat for entry in entries] + [len(plans)])
-        self.lanes = ["setup"] + (plans or [f"seat {seat}" for seat in range(1, last + 1)])
+        self.lanes = ["setup"] + (plans or [(names or {}).get(seat, f"seat {seat}") for seat in range(1, last + 1)])
         if last >= len(self.lanes):
             raise NoPlay("there are more seats than plans")
-        self.shown = threads if scenario else []
+        self.shown = threads if scenario or names is not None else []
         self.parts = []
         self.heads = [folded(name, WIDEST_LANE) for name in self.lanes] + [folded(name, WIDEST_THREAD) for name, _, _ in self.shown]
         self.boxes = [Box(entry) for entry in entries]
@@ -246,7 +303,7 @@ class Picture:
 
     def draw(self):
         width = self.thread_lane(len(self.shown))
-        below = [] if self.scenario else [f"thread {name}: {steps} steps, {state}" for name, steps, state in self.threads]
+        below = [] if self.shown else [f"thread {name}: {steps} steps, {state}" for name, steps, state in self.threads]
         height = self.row(len(self.entries)) + 16 + 18 * len(below)
         self.draw_heads()
         self.draw_threads()
@@ -334,6 +391,9 @@ def cut(text, letters):
 
 
 def drawn(text, scenario):
+    if text.startswith("{"):
+        entries, threads, names = read_objects(text)
+        return "\n".join(Picture(entries, threads, None, names).draw()) + "\n"
     entries, threads = read(text)
     if scenario:
         explain(entries, scenario)

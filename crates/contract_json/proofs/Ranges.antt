@@ -1,5 +1,5 @@
 -- The numbers of what `serde_json` reads lie in their ranges.
-use Rattle.std.proofs.Common.{◌≡◌, ℕ, ℤ, pos, drop, zero, suc, ◌^◌, Bool, true, false, cond, ◌&&◌, List, Option, Some, None, option_map, option_and_then, Ok, Err, refl, subst, ap, arith, Ordering, Less, Equal, Greater}
+use Rattle.std.proofs.Common.{◌≡◌, ℕ, ℤ, pos, drop, zero, suc, ◌^◌, Bool, true, false, cond, ◌&&◌, List, [], ◌∷◌, Option, Some, None, option_map, option_and_then, Ok, Err, refl, subst, ap, arith, Ordering, Less, Equal, Greater}
 use Rattle.std.proofs.lemmas.Bool.{and_parts}
 use Rattle.std.specs.Prelude.{⊤, nat_lt, nat_le}
 use Rattle.std.specs.Ordering.{nat_cmp, match_ordering}
@@ -10,8 +10,9 @@ use Rattle.fast_float.specs.Text.{minus, Parts, scan, digits_of, nearest, with_s
 use Rattle.json.specs.Lex.{tokens}
 use Rattle.json.specs.Json as json
 use Rattle.serde_json.specs.Data.{Num, unsigned, negative, float, Data, null, boolean, number, string, array, object, Items, no_items, item, Members, no_members, member, put}
-use Rattle.serde_json.specs.Find.{get_member}
+use Rattle.serde_json.specs.Find.{get, get_member}
 use Rattle.json_tree.specs.View.{read_within}
+use Rattle.contract_json.specs.PartAt.{part_at}
 use Rattle.serde_json.specs.Read.{read, max_depth, is_integer, float_of, number_from, number_of, of_json, of_items, of_members}
 use Rattle.collections.specs.Answers.{◌>>=◌}
 use Rattle.json_read_names.specs.Parts.{Reading, needed, whole_number, time, member_at, reading_at}
@@ -156,6 +157,11 @@ member_at-in-range key (number n) e r h = cc
 member_at-in-range key (string s) e r h = cc
 member_at-in-range key (array ds) e r h = cc
 member_at-in-range key (object ms) e r h = get_member-in-range key ms e r (found-some (get_member key ms) e h)
+
+-- so is each part to which names lead
+pub part-in-range : (names : List (List ℕ)) (d e : Data) → InRange d → part_at names d ≡ Some e → InRange e
+part-in-range [] d e r h = subst InRange (some-same d e h) r
+part-in-range (name ∷ names) d e r h = let m = then-some (part_at names) (get name d) e h in part-in-range names m.0 e (member_at-in-range name d m.0 r (ap needed m.1)) m.2
 
 -- what holds of each reading of a value in range holds of the reading of a member
 pub at-fits : {X : Type 0} (P : X → Type 0) (reading : Data → Reading X) → ((e : Data) (x : X) → InRange e → reading e ≡ Ok x → P x)

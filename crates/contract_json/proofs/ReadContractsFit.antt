@@ -18,6 +18,7 @@ use Rattle.collections.specs.Answers.{◌>>=◌}
 use Rattle.json_read_names.specs.Parts.{ByKey, reading_at, both_readings, nowhere, text, whole_number, time, all_items, list}
 use Rattle.json_read_names.specs.ReadsNames.{party, payee, token, choice_id, bound}
 use Rattle.json_tree.specs.View.{read_within}
+use Rattle.contract_json.specs.PartAt.{part_at}
 use Rattle.json_read_names.specs.ReadsText.{json_of, json_or_not, json_within, of_text, of_text_within}
 use Rattle.json_read_names.proofs.TextLaws.{json_within-127}
 use Rattle.json_read_names.specs.declared.fault.JsonFault.TheVariants.{NoForm, NotJson, TooLong}
@@ -32,7 +33,7 @@ use Rattle.json_read_values.specs.ReadsValue.{value, observation}
 use Rattle.json_read_contracts.specs.ReadsContract.{contract, contract_by, contract_in, case, case_by, cases, all_cases, cases_in}
 use Rattle.json_write_contracts.specs.WrittenNames.{number_fits, time_fits}
 use Rattle.json_write_contracts.specs.WrittenContract.{bound_fits, action_fits, case_fits, cases_fit, contract_fits}
-use Rattle.contract_json.proofs.Ranges.{InRange, ItemsInRange, MembersInRange, bind_ok, ok-same, at-fits, whole-fits, time-fits, read-in-range, read-within-in-range}
+use Rattle.contract_json.proofs.Ranges.{InRange, ItemsInRange, MembersInRange, bind_ok, ok-same, at-fits, whole-fits, time-fits, read-in-range, read-within-in-range, part-in-range}
 use Rattle.contract_json.proofs.ReadValuesFit.{VF, OF, value-read-fits, observation-read-fits, both-ok, either}
 
 abbrev NF : ℤ → Type 0
@@ -237,6 +238,11 @@ pub read-within-fits : (n : ℕ) (t : List ℕ) (c : Contract) → of_text_withi
 read-within-fits n t c h = let d = bind_ok (json_within n t) contract c h in contract-read-fits d.0 c (json_within-in-range n t d.0 d.1) d.2
 
 pub ruleset deep_contracts_fit = read-within-fits
+
+pub part-fits : (n : ℕ) (t : List ℕ) (whole part : Data) (names : List (List ℕ)) (c : Contract) → read_within n t ≡ Some whole → part_at names whole ≡ Some part → contract part ≡ Ok c → CF c
+part-fits n t whole part names c h is reads = contract-read-fits part c (part-in-range names whole part (read-within-in-range n t whole h) is) reads
+
+pub ruleset parts_fit = part-fits
 
 pub of-127 : (text : List ℕ) → of_text_within 127 contract text ≡ of_text contract text
 of-127 text = ap (λ r. r >>= contract) (json_within-127 text)

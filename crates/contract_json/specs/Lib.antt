@@ -4,3 +4,4 @@ pub mod Puts
 pub mod Readable
 pub mod InputSymbols
 pub mod ReadsOutcome
+pub mod PartAt

@@ -24,7 +24,8 @@ pub use json_read_values::{
 pub use json_tree::JsonValue;
 pub use json_write_contracts::WriteFault;
 pub use laws::{
-    contracts_within_127, what_is_read_can_be_written, what_is_read_within_can_be_written,
+    contracts_within_127, what_is_read_can_be_written, what_is_read_of_parts_can_be_written,
+    what_is_read_within_can_be_written,
 };
 pub use put_json::{PutJson, fitting_to_json, to_json};
 pub use read_back::state_is_read_back;

@@ -1,7 +1,7 @@
 //! Why a contract has no table: where it is too deep, or how many nodes it has. A second look, made once `compile` refuses it.
 //!
-//! `explain` finds a record, `Explanation`; `explained` prints it as a line for people, which stands behind the line of the refusal,
-//! indented.
+//! `explain` finds a record, `Explanation`; `explained` writes it as a line for people, which stands behind the line of the refusal,
+//! indented, or as a member of a JSON object for tools.
 #![tactic(auto)]
 
 mod counts;
@@ -10,6 +10,7 @@ mod explanation;
 mod finding;
 mod laws;
 mod lines;
+mod members;
 
 pub use counts::{continuations, other_nodes};
 pub use depths::too_deep_at;

@@ -4,26 +4,12 @@ use Rattle.std.specs.Fmt.{digits}
 use Rattle.std.specs.Str.{chars}
 use lib.Utf8.{encode}
 use Rattle.json.proofs.OnLiterals.{json_on_literals}
-use Rattle.json_forms.specs.Spelling.{one_apart, two_apart}
-use Rattle.json_forms.specs.Lacking.{met, nearest}
-use Rattle.explanations.specs.Rows.{MisspelledKeysAreTold, WordsAreTold, NumbersAreTold, BadStatesAreTold, BrokenTextsAreTold}
-
-pub misspelled_keys_are_told : MisspelledKeysAreTold
-unfolding digits chars encode json_on_literals met nearest one_apart two_apart
-misspelled_keys_are_told = refl
-
-pub words_are_told : WordsAreTold
-unfolding digits chars encode json_on_literals met nearest
-words_are_told = refl
-
-pub numbers_are_told : NumbersAreTold
-unfolding digits chars encode json_on_literals
-numbers_are_told = (refl, refl)
-
-pub bad_states_are_told : BadStatesAreTold
-unfolding digits chars encode json_on_literals
-bad_states_are_told = (refl, refl)
+use Rattle.explanations.specs.Rows.{BrokenTextsAreTold, BrokenTextsAreMembers}
 
 pub broken_texts_are_told : BrokenTextsAreTold
 unfolding digits chars encode
-broken_texts_are_told = (refl, refl, refl)
+broken_texts_are_told = (refl, refl, refl, refl)
+
+pub broken_texts_are_members : BrokenTextsAreMembers
+unfolding digits chars encode json_on_literals
+broken_texts_are_members = (refl, refl, refl)

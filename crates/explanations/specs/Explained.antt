@@ -6,7 +6,7 @@ use Rattle.serde_json.specs.Data.{Data}
 use Rattle.json_tree.specs.View.{view}
 use Rattle.json_tree.specs.declared.tree.Json.{Json}
 use Rattle.json_read_names.specs.Parts.{Reading}
-use Rattle.json_read_names.specs.ReadsText.{json_of}
+use Rattle.json_read_names.specs.ReadsText.{json_within}
 use Rattle.json_read_names.specs.declared.fault.JsonFault.{JsonFault}
 use Rattle.json_read_names.specs.declared.fault.JsonFault.TheVariants as faults
 use Rattle.text_spots.specs.declared.spots.Spot.{Spot}
@@ -20,10 +20,29 @@ use Rattle.json_forms.specs.declared.sort.ScenarioSort.TheVariants as parts
 use Rattle.json_stops.specs.Stops.{Place, StopsAt, fault_of, fault_as}
 use Rattle.scenario_stops.specs.Stops.{StopsIn, names_in}
 use Rattle.explanations.specs.declared.broken.NoJson.{NoJson}
-use Rattle.explanations.specs.Told.{Told}
-use Rattle.explanations.specs.Lines.{beside, lines_of}
-use Rattle.explanations.specs.TextLines.{IsReason, no_json_lines, too_long_line}
+use Rattle.told_parts.specs.Told.{Told}
+use Rattle.json_members.specs.declared.spelling.Spelling.{Spelling}
+use Rattle.json_members.specs.declared.spelling.Spelling.TheVariants as spellings
+use Rattle.explanations.specs.declared.how.How.{How}
+use Rattle.told_parts.specs.Lines.{beside, lines_of}
+use Rattle.told_parts.specs.Members.{members_of}
+use Rattle.explanations.specs.TextLines.{IsReason, no_json_lines, no_json_members, too_long_line, too_long_members}
 use Rattle.explanations.specs.Indexes.{indexes_of, keys_in}
+
+-- ---- spellings
+
+-- what is told, as it is written
+abbrev pub spelled : Spelling → List ℕ → Told → List ℕ
+spelled spellings.Lines file t = lines_of file t
+spelled spellings.Members file t = members_of file t
+
+abbrev pub no_json_spelled : Spelling → ℕ → List ℕ → List ℕ → NoJson → ℕ → List ℕ
+no_json_spelled spellings.Lines depth file text reason n = no_json_lines depth file text reason n
+no_json_spelled spellings.Members depth file text reason n = no_json_members depth file text reason n
+
+abbrev pub too_long_spelled : Spelling → List ℕ → ℕ → List ℕ
+too_long_spelled spellings.Lines file n = too_long_line file n
+too_long_spelled spellings.Members file n = too_long_members file n
 
 -- ---- a text that is JSON
 
@@ -32,75 +51,75 @@ token_or_bad None = Token.bad
 token_or_bad (Some token) = token
 
 -- the token with which the part behind these indexes begins
-abbrev pub token_behind : List ℕ → List ℕ → Token
-token_behind text indexes = token_or_bad (token_at 127 indexes (tokens text))
+abbrev pub token_behind : ℕ → List ℕ → List ℕ → Token
+token_behind depth text indexes = token_or_bad (token_at depth indexes (tokens text))
 
 -- the text goes on with the token at the offset, or the offset is its end
 abbrev pub StandsAt : List ℕ → ℕ → Token → Type 0
 StandsAt text n token = (n ≡ length text) ⊎ (first_token (tokens (drop n text)) ≡ Some token)
 
 -- where the first entry begins that has the key of one that is given again, at the end of a path
-abbrev pub IsFirst : List ℕ → Json → List Step → Sort → Option Spot → Type 0
-IsFirst text tree path (sorts.Repeated index) first =
-    (n : ℕ) × (first ≡ Some (spot_at text n)) × StandsAt text n (token_behind text (indexes_of (beside path index) tree))
-IsFirst text tree path sort first = first ≡ None
+abbrev pub IsFirst : ℕ → List ℕ → Json → List Step → Sort → Option Spot → Type 0
+IsFirst depth text tree path (sorts.Repeated index) first =
+    (n : ℕ) × (first ≡ Some (spot_at text n)) × StandsAt text n (token_behind depth text (indexes_of (beside path index) tree))
+IsFirst depth text tree path sort first = first ≡ None
 
 -- what is told of a place, in a text that is read as a tree: n is the offset at which it begins, and `part` the tree that stands there
-abbrev pub told_at : List ℕ → Json → Place → ℕ → Json → Option Spot → List (List ℕ) → Told
-told_at text tree at n part first names =
+abbrev pub told_at : ℕ → List ℕ → Json → Place → ℕ → Json → Option Spot → List (List ℕ) → Told
+told_at depth text tree at n part first names =
     record {
       path = at.path;
       spot = spot_at text n;
       sort = at.sort;
       fault = at.fault;
-      token = token_behind text (indexes_of at.path tree);
+      token = token_behind depth text (indexes_of at.path tree);
       keys = keys_in part;
       first = first;
       names = names;
     }
 
--- the lines of a place in a text, with the names that there are
-pub record IsToldAt (file text : List ℕ) (d : Data) (at : Place) (names : List (List ℕ)) (lines : List ℕ) : Type 0 where
+-- what is written of a place in a text, with the names that there are
+pub record IsToldAt (how : How) (file text : List ℕ) (d : Data) (at : Place) (names : List (List ℕ)) (written : List ℕ) : Type 0 where
   pub tree : Json
   pub part : Json
   pub offset : ℕ
   pub first : Option Spot
   pub of_tree : view tree ≡ d
   pub of_part : view part ≡ at.json
-  pub stands : StandsAt text offset (token_behind text (indexes_of at.path tree))
-  pub is_first : IsFirst text tree at.path at.sort first
-  pub lines_are : lines ≡ lines_of file (told_at text tree at offset part first names)
+  pub stands : StandsAt text offset (token_behind how.depth text (indexes_of at.path tree))
+  pub is_first : IsFirst how.depth text tree at.path at.sort first
+  pub written_is : written ≡ spelled how.spelling file (told_at how.depth text tree at offset part first names)
 
--- the lines of a place at which reading stops
-abbrev pub IsTold : List ℕ → List ℕ → Sort → Data → List ℕ → Type 0
-IsTold file text sort d lines = (at : Place) × StopsAt sort d at × IsToldAt file text d at [] lines
+-- what is written of a place at which reading stops
+abbrev pub IsTold : How → List ℕ → List ℕ → Sort → Data → List ℕ → Type 0
+IsTold how file text sort d written = (at : Place) × StopsAt sort d at × IsToldAt how file text d at [] written
 
 -- nothing is told where it is read
-abbrev pub IsToldBy : List ℕ → List ℕ → Sort → Data → List ℕ → Option JsonFault → Type 0
-IsToldBy file text sort d lines None = lines ≡ []
-IsToldBy file text sort d lines (Some fault) = IsTold file text sort d lines
+abbrev pub IsToldBy : How → List ℕ → List ℕ → Sort → Data → List ℕ → Option JsonFault → Type 0
+IsToldBy how file text sort d written None = written ≡ []
+IsToldBy how file text sort d written (Some fault) = IsTold how file text sort d written
 
 -- ---- any text
 
 -- a text that is no JSON
-pub record IsToldNoJson (file text lines : List ℕ) : Type 0 where
+pub record IsToldNoJson (how : How) (file text written : List ℕ) : Type 0 where
   pub reason : NoJson
   pub offset : ℕ
   pub is_reason : IsReason text reason offset
-  pub lines_are : lines ≡ no_json_lines file text reason offset
+  pub written_is : written ≡ no_json_spelled how.spelling how.depth file text reason offset
 
-abbrev pub FaultIsTold : List ℕ → List ℕ → List ℕ → JsonFault → Type 0
-FaultIsTold file text lines faults.NotJson = IsToldNoJson file text lines
-FaultIsTold file text lines faults.TooLong = lines ≡ too_long_line file (length text)
-FaultIsTold file text lines other = lines ≡ []
+abbrev pub FaultIsTold : How → List ℕ → List ℕ → List ℕ → JsonFault → Type 0
+FaultIsTold how file text written faults.NotJson = IsToldNoJson how file text written
+FaultIsTold how file text written faults.TooLong = written ≡ too_long_spelled how.spelling file (length text)
+FaultIsTold how file text written other = written ≡ []
 
-abbrev pub ReadingIsTold : List ℕ → List ℕ → Sort → List ℕ → Reading Data → Type 0
-ReadingIsTold file text sort lines (Ok d) = IsToldBy file text sort d lines (fault_as sort d)
-ReadingIsTold file text sort lines (Err fault) = FaultIsTold file text lines fault
+abbrev pub ReadingIsTold : How → List ℕ → List ℕ → Sort → List ℕ → Reading Data → Type 0
+ReadingIsTold how file text sort written (Ok d) = IsToldBy how file text sort d written (fault_as sort d)
+ReadingIsTold how file text sort written (Err fault) = FaultIsTold how file text written fault
 
--- the lines that explain why a text isn't read as one of a sort
-abbrev pub Explains : List ℕ → List ℕ → Sort → List ℕ → Type 0
-Explains file text sort lines = ReadingIsTold file text sort lines (json_of text)
+-- what is written explains why a text isn't read as one of a sort
+abbrev pub Explains : How → List ℕ → List ℕ → Sort → List ℕ → Type 0
+Explains how file text sort written = ReadingIsTold how file text sort written (json_within how.depth text)
 
 -- ---- a scenario
 
@@ -109,15 +128,15 @@ abbrev pub names_there : Data → Sort → List (List ℕ)
 names_there d (sorts.OfScenario (parts.NameOf kind)) = names_in kind d
 names_there d sort = []
 
--- the lines of a place at which the reading of a scenario stops; nothing is told where it is read
-abbrev pub IsToldScenario : List ℕ → List ℕ → Data → List ℕ → Option JsonFault → Type 0
-IsToldScenario file text d lines None = lines ≡ []
-IsToldScenario file text d lines (Some fault) = (at : Place) × StopsIn d at × IsToldAt file text d at (names_there d at.sort) lines
+-- what is written of a place at which the reading of a scenario stops; nothing is told where it is read
+abbrev pub IsToldScenario : How → List ℕ → List ℕ → Data → List ℕ → Option JsonFault → Type 0
+IsToldScenario how file text d written None = written ≡ []
+IsToldScenario how file text d written (Some fault) = (at : Place) × StopsIn d at × IsToldAt how file text d at (names_there d at.sort) written
 
-abbrev pub ScenarioIsTold : List ℕ → List ℕ → List ℕ → Reading Data → Type 0
-ScenarioIsTold file text lines (Ok d) = IsToldScenario file text d lines (fault_of (scenario d))
-ScenarioIsTold file text lines (Err fault) = FaultIsTold file text lines fault
+abbrev pub ScenarioIsTold : How → List ℕ → List ℕ → List ℕ → Reading Data → Type 0
+ScenarioIsTold how file text written (Ok d) = IsToldScenario how file text d written (fault_of (scenario d))
+ScenarioIsTold how file text written (Err fault) = FaultIsTold how file text written fault
 
--- the lines that explain why a text isn't read as a scenario
-abbrev pub ExplainsScenario : List ℕ → List ℕ → List ℕ → Type 0
-ExplainsScenario file text lines = ScenarioIsTold file text lines (json_of text)
+-- what is written explains why a text isn't read as a scenario
+abbrev pub ExplainsScenario : How → List ℕ → List ℕ → List ℕ → Type 0
+ExplainsScenario how file text written = ScenarioIsTold how file text written (json_within how.depth text)

@@ -16,5 +16,5 @@ abbrev pub place_of : Stop → Json → Place
 place_of stop part = record { path = stop.path.items; sort = stop.sort; fault = stop.fault; json = view part }
 
 -- where code finds that a part begins
-abbrev pub Begins : List ℕ → List ℕ → Spot → Token → Type 0
-Begins text indexes spot token = (n : ℕ) × (spot ≡ spot_at text n) × (IsUtf8 text → token ≡ token_behind text indexes) × StandsAt text n token
+abbrev pub Begins : ℕ → List ℕ → List ℕ → Spot → Token → Type 0
+Begins depth text indexes spot token = (n : ℕ) × (spot ≡ spot_at text n) × (IsUtf8 text → token ≡ token_behind depth text indexes) × StandsAt text n token

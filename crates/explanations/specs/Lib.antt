@@ -1,6 +1,3 @@
-pub mod Words
-pub mod Told
-pub mod Lines
 pub mod TextLines
 pub mod Indexes
 pub mod Explained

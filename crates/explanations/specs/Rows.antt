@@ -1,102 +1,24 @@
 -- Worked rows, computed on the definitions.
-use Rattle.std.specs.Prelude.{◌≡◌, ℕ, List, [], ◌∷◌, Some, None, codes}
-use Rattle.json.specs.Token.{Token}
-use Rattle.json_read_names.specs.declared.fault.JsonFault.TheVariants as faults
-use Rattle.json_forms.specs.declared.key.Key.TheVariants as keys
-use Rattle.json_forms.specs.declared.sort.Numbers.TheVariants as numbers
-use Rattle.json_forms.specs.declared.sort.Sort.TheVariants as sorts
-use Rattle.json_stops.specs.declared.stop.Step.TheVariants as steps
-use Rattle.explanations.specs.Told.{Told}
+use Rattle.std.specs.Prelude.{◌≡◌, codes}
 use Rattle.text_spots.specs.Spots.{mark}
 use Rattle.explanations.specs.declared.broken.NoJson.TheVariants as no_json
-use Rattle.explanations.specs.Lines.{lines_of}
-use Rattle.explanations.specs.TextLines.{no_json_lines, too_long_line}
-
-abbrev pub AreLines : Told → List ℕ → Type 0
-AreLines t lines = lines_of (codes "contract.json") t ≡ lines
-
--- a pay whose key is misspelled
-abbrev pub misspelled : Told
-misspelled =
-    record {
-      path = steps.Key keys.When ∷ steps.Item 0 ∷ steps.Key keys.Then ∷ [];
-      spot = record { line = 12; column = 8 };
-      sort = sorts.Contract;
-      fault = faults.NoForm;
-      token = Token.begin_object;
-      keys = codes "pay" ∷ codes "token" ∷ codes "from_acount" ∷ codes "to" ∷ codes "then" ∷ [];
-      first = None;
-      names = [];
-    }
-
-abbrev pub MisspelledKeysAreTold : Type 0
-MisspelledKeysAreTold =
-    AreLines misspelled
-    (codes
-    "  contract.json:12:8 at .when[0].then: no form of a contract; its keys are \"pay\", \"token\", \"from_acount\", \"to\", \"then\"\n  a pay wants \"from_account\"\n  nearest to it is \"from_acount\"\n")
-
--- a word that is none
-abbrev pub big_close : Told
-big_close = record { path = []; spot = record { line = 1; column = 1 }; sort = sorts.Contract; fault = faults.NoForm; token = Token.string (codes "Close"); keys = []; first = None; names = [] }
-
-abbrev pub WordsAreTold : Type 0
-WordsAreTold =
-    AreLines big_close (codes "  contract.json:1:1: no form of a contract; here stands \"Close\"\n  a contract is \"close\", or has \"pay\", \"if\", \"when\", \"let\" or \"assert\"\n")
-
--- a time in quotation marks, and one that is none
-abbrev pub quoted_time : Told
-quoted_time =
-    record { path = steps.Key keys.Timeout ∷ []; spot = record { line = 1; column = 22 }; sort = sorts.Time; fault = faults.NoForm; token = Token.string (codes "100"); keys = []; first = None; names = [] }
-
-abbrev pub pointed_time : Told
-pointed_time =
-    record { path = steps.Key keys.Timeout ∷ []; spot = record { line = 1; column = 22 }; sort = sorts.Time; fault = faults.NotWhole; token = Token.number (codes "1e3"); keys = []; first = None; names = [] }
-
-abbrev pub NumbersAreTold : Type 0
-NumbersAreTold =
-    AreLines quoted_time (codes "  contract.json:1:22 at .timeout: no time; here stands \"100\"\n  a number stands without quotation marks\n")
-    × AreLines pointed_time
-    (codes "  contract.json:1:22 at .timeout: no whole number; here stands 1e3\n  a whole number lies from -9223372036854775808 to 18446744073709551615, without point and exponent\n")
-
--- an account that holds nothing, and a name that is bound twice
-abbrev pub AreStateLines : Told → List ℕ → Type 0
-AreStateLines t lines = lines_of (codes "state.json") t ≡ lines
-
-abbrev pub empty_account : Told
-empty_account =
-    record {
-      path = steps.Key keys.Accounts ∷ steps.Item 0 ∷ steps.Item 1 ∷ [];
-      spot = record { line = 1; column = 76 };
-      sort = sorts.Amount numbers.Whole;
-      fault = faults.BadState;
-      token = Token.number (codes "0");
-      keys = [];
-      first = None;
-      names = [];
-    }
-
-abbrev pub bound_twice : Told
-bound_twice =
-    record {
-      path = steps.Key keys.BoundValues ∷ steps.Item 2 ∷ [];
-      spot = record { line = 4; column = 5 };
-      sort = sorts.Repeated 0;
-      fault = faults.BadState;
-      token = Token.begin_array;
-      keys = [];
-      first = Some (record { line = 2; column = 5 });
-      names = [];
-    }
-
-abbrev pub BadStatesAreTold : Type 0
-BadStatesAreTold =
-    AreStateLines empty_account (codes "  state.json:1:76 at .accounts[0][1]: no number above 0; here stands 0\n  an account holds a number above 0: leave out one that holds nothing\n")
-    × AreStateLines bound_twice
-    (codes "  state.json:4:5 at .boundValues[2]: no second entry for one key; the first stands at 2:5, .boundValues[0]\n  each key stands once: add up what belongs together, or leave one out\n")
+use Rattle.explanations.specs.TextLines.{no_json_lines, no_json_members, too_long_line, too_long_members}
 
 -- a text that ends too early, one that begins with a mark, and one that is too long
 abbrev pub BrokenTextsAreTold : Type 0
 BrokenTextsAreTold =
-    (no_json_lines (codes "contract.json") (codes "{\n ") no_json.Syntax 3 ≡ codes "  contract.json:2:2: no JSON; here stands the end of the text\n")
-    × (no_json_lines (codes "contract.json") mark no_json.Mark 0 ≡ codes "  contract.json:1:1: a byte order mark stands before the text\n")
+    (no_json_lines 127 (codes "contract.json") (codes "{\n ") no_json.Syntax 3 ≡ codes "  contract.json:2:2: no JSON; here stands the end of the text\n")
+    × (no_json_lines 127 (codes "contract.json") mark no_json.Mark 0 ≡ codes "  contract.json:1:1: a byte order mark stands before the text\n")
+    × (no_json_lines 127 (codes "contract.json") (codes "[[[ ") no_json.TooDeep 3
+    ≡ codes "  contract.json:1:4: nested deeper than 127\n  wait less often in a row, or run what is left as a contract of its own\n")
     × (too_long_line (codes "contract.json") 1048577 ≡ codes "  contract.json: 1048577 bytes, and 1048576 are read\n")
+
+-- the same for tools
+abbrev pub BrokenTextsAreMembers : Type 0
+BrokenTextsAreMembers =
+    (no_json_members 127 (codes "contract.json") (codes "{\n ") no_json.Syntax 3
+    ≡ codes "\"file\":\"contract.json\",\"line\":2,\"column\":2,\"reason\":\"no JSON; here stands the end of the text\"")
+    × (no_json_members 400 (codes "contract.json") (codes "[[[ ") no_json.TooDeep 3
+    ≡ codes
+    "\"file\":\"contract.json\",\"line\":1,\"column\":4,\"reason\":\"nested deeper than 400\",\"hint\":\"wait less often in a row, or run what is left as a contract of its own\"")
+    × (too_long_members (codes "contract.json") 1048577 ≡ codes "\"file\":\"contract.json\",\"length\":1048577")

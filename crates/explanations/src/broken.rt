@@ -13,13 +13,13 @@ pub enum NoJson {
     NotUtf8,
     /// A byte order mark stands before it.
     Mark,
-    /// A list or an object begins inside 127 others.
+    /// A list or an object begins inside as many others as may be.
     TooDeep,
     /// What stands at an offset can't stand there: a token, a number beyond all floats, or the end of the text.
     Syntax,
 }
 
-/// How deep lists and objects may nest in a text that is read.
+/// How deep lists and objects may nest in a transaction or a state that is read, and in a contract or a scenario unless more is asked for.
 pub const MAX_DEPTH: usize = 127;
 
 // A number of so many bytes without an exponent is one that floats reach.
@@ -42,7 +42,11 @@ enum Wanted {
 }
 
 /// Why a text is no JSON, and at which offset: at its first token that can't stand there, or at its end.
-pub(crate) fn first_break(alloc: Global, text: &str) -> Result<(NoJson, usize), Memory>
+pub(crate) fn first_break(
+    alloc: Global,
+    text: &str,
+    depth: usize,
+) -> Result<(NoJson, usize), Memory>
     ensures { IfOk result (λ found. (found.0 ≡ NoJson.TooDeep) ⊎ (found.0 ≡ NoJson.Syntax)) }
 {
     let mut scratch = Scratch::new(alloc);
@@ -59,7 +63,7 @@ pub(crate) fn first_break(alloc: Global, text: &str) -> Result<(NoJson, usize), 
         if beyond || !fits(wanted, token) {
             return Ok((NoJson::Syntax, offset));
         }
-        if begins(token) && open.len() >= MAX_DEPTH {
+        if begins(token) && open.len() >= depth {
             return Ok((NoJson::TooDeep, offset));
         }
         wanted = pass(&mut open, token)?;

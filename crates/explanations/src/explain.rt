@@ -1,53 +1,65 @@
-//! From the name and the text of a file to the lines.
+//! From the name and the text of a file to what is told of it.
 ghost use Rattle.std.specs.Prelude.{◌≡◌, ◌≢◌, IfOk, map};
 ghost use Rattle.std.specs.Str.{IsUtf8};
 ghost use Rattle.json.specs.Reads.{token_of};
 ghost use Rattle.json_tree.specs.View.{view};
 ghost use Rattle.json_read_scenarios.specs.ReadsScenario.{scenario};
 ghost use Rattle.json_stops.specs.Stops.{fault_as, fault_of};
-ghost use Rattle.explanations.specs.Explained.{Explains, ExplainsScenario, FaultIsTold, IsFirst, IsToldAt, IsToldBy, IsToldScenario, names_there};
+ghost use Rattle.explanations.specs.Explained.{Explains, ExplainsScenario, FaultIsTold, IsFirst, IsToldAt, IsToldBy, IsToldScenario, names_there, spelled};
+ghost use Rattle.told_parts.specs.Told.{seen};
 ghost use Rattle.explanations.specs.ExplainedSupport.{Begins, place_of};
 
-use crate::broken::MAX_DEPTH;
+use crate::how::How;
 use crate::indexes::{indexes_of, keys_in};
-use crate::lines::told_lines;
-use crate::part::Told;
-use crate::pieces::beside;
 use crate::standing::sure_offset;
-use crate::text_lines::{no_json_lines, too_long_line};
+use crate::text_lines::{no_json_told, too_long_told};
 use collections::Memory;
 use json::{Scratch, Token};
 use json_forms::{ScenarioSort, Sort};
-use json_read_names::{JsonFault, json_of};
+use json_members::Spelling;
+use json_read_names::{JsonFault, json_within};
 use json_stops::{Step, Stop, first_stop};
 use json_tree::Json;
 use part_tokens::beginning_of;
 use scenario_stops::names_in;
 use std::alloc::{AllocError, Global};
 use text_spots::{Spot, spot_at};
+use told_parts::{Told, beside, told_lines, told_members};
 
-/// The lines that explain why the text of a file isn't read as one of a sort: a contract, a transaction, a state. `file` is the name
-/// that they tell. Where the text is read there is none. `Memory` where memory was refused.
+/// Why the text of a file isn't read as one of a sort: a contract, a transaction, a state. It is written as `how` says, in lines or
+/// members. `file` is the name that is told. Where the text is read there are no bytes. `Memory` where memory was refused.
 ///
-/// Of a text that is JSON they tell the first part at which reading stops; of one that isn't, where it breaks the form of JSON; of one
-/// of more than 1,048,576 bytes, how long it is.
-pub fn explained(alloc: Global, file: &str, text: &[u8], sort: Sort) -> Result<Vec<u8>, Memory>
-    ensures { IfOk result (λ lines. Explains file.now text.now sort lines.items) }
+/// Of a text that is JSON the first part is told at which reading stops; of one that isn't, where it breaks the form of JSON or nests
+/// deeper than `how` says; of one of more than 1,048,576 bytes, how long it is.
+pub fn explained(
+    alloc: Global,
+    file: &str,
+    text: &[u8],
+    sort: Sort,
+    how: How,
+) -> Result<Vec<u8>, Memory>
+    ensures { IfOk result (λ written. Explains how file.now text.now sort written.items) }
 {
     let mut scratch = Scratch::new(alloc);
-    match json_of(alloc, text, &mut scratch) {
-        Ok(json) => told_json(alloc, file, text, sort, &json),
-        Err(fault) => told_fault(alloc, file, text, fault),
+    match json_within(alloc, text, &mut scratch, how.depth) {
+        Ok(json) => told_json(alloc, file, text, sort, &json, how),
+        Err(fault) => told_fault(alloc, file, text, fault, how),
     }
 }
 
 // Of a text that isn't read as JSON.
-fn told_fault(alloc: Global, file: &str, text: &[u8], fault: JsonFault) -> Result<Vec<u8>, Memory>
-    ensures { IfOk result (λ lines. (fault ≢ JsonFault.Memory) × FaultIsTold file.now text.now lines.items fault) }
+fn told_fault(
+    alloc: Global,
+    file: &str,
+    text: &[u8],
+    fault: JsonFault,
+    how: How,
+) -> Result<Vec<u8>, Memory>
+    ensures { IfOk result (λ written. (fault ≢ JsonFault.Memory) × FaultIsTold how file.now text.now written.items fault) }
 {
     match fault {
-        JsonFault::NotJson => no_json_lines(alloc, file, text),
-        JsonFault::TooLong => too_long_line(alloc, file, text.len()),
+        JsonFault::NotJson => no_json_told(alloc, file, text, how),
+        JsonFault::TooLong => too_long_told(alloc, file, text.len(), how.spelling),
         JsonFault::Memory => Err(AllocError),
         JsonFault::NoForm
         | JsonFault::NotWhole
@@ -65,38 +77,51 @@ fn told_json(
     text: &[u8],
     sort: Sort,
     json: &Json<'_>,
+    how: How,
 ) -> Result<Vec<u8>, Memory>
     requires { IsUtf8 text.now }
-    ensures { IfOk result (λ lines. IsToldBy file.now text.now sort (view json.now) lines.items (fault_as sort (view json.now))) }
+    ensures { IfOk result (λ written.
+        IsToldBy how file.now text.now sort (view json.now) written.items (fault_as sort (view json.now))) }
 {
     let found = first_stop(alloc, sort, json)?;
     match found {
-        Some((stop, part)) => { told_stop(alloc, file, text, json, &stop, part, &[]) }
+        Some((stop, part)) => told_stop(alloc, file, text, json, &stop, part, &[], how),
         None => Ok(Vec::new(alloc)),
     }
 }
 
-/// The same of a scenario. Of a name that none has they tell the names that there are.
-pub fn explained_scenario(alloc: Global, file: &str, text: &[u8]) -> Result<Vec<u8>, Memory>
-    ensures { IfOk result (λ lines. ExplainsScenario file.now text.now lines.items) }
+/// The same of a scenario. Of a name that none has the names are told that there are.
+pub fn explained_scenario(
+    alloc: Global,
+    file: &str,
+    text: &[u8],
+    how: How,
+) -> Result<Vec<u8>, Memory>
+    ensures { IfOk result (λ written. ExplainsScenario how file.now text.now written.items) }
 {
     let mut scratch = Scratch::new(alloc);
-    match json_of(alloc, text, &mut scratch) {
-        Ok(json) => told_scenario(alloc, file, text, &json),
-        Err(fault) => told_fault(alloc, file, text, fault),
+    match json_within(alloc, text, &mut scratch, how.depth) {
+        Ok(json) => told_scenario(alloc, file, text, &json, how),
+        Err(fault) => told_fault(alloc, file, text, fault, how),
     }
 }
 
-fn told_scenario(alloc: Global, file: &str, text: &[u8], json: &Json<'_>) -> Result<Vec<u8>, Memory>
+fn told_scenario(
+    alloc: Global,
+    file: &str,
+    text: &[u8],
+    json: &Json<'_>,
+    how: How,
+) -> Result<Vec<u8>, Memory>
     requires { IsUtf8 text.now }
-    ensures { IfOk result (λ lines.
-        IsToldScenario file.now text.now (view json.now) lines.items (fault_of (scenario (view json.now)))) }
+    ensures { IfOk result (λ written.
+        IsToldScenario how file.now text.now (view json.now) written.items (fault_of (scenario (view json.now)))) }
 {
     let found = scenario_stops::first_stop(alloc, json)?;
     match found {
         Some((stop, part)) => {
             let names = names_there(alloc, json, stop.sort)?;
-            told_stop(alloc, file, text, json, &stop, part, &names)
+            told_stop(alloc, file, text, json, &stop, part, &names, how)
         }
         None => Ok(Vec::new(alloc)),
     }
@@ -111,7 +136,7 @@ fn names_there<'j>(alloc: Global, json: &'j Json<'_>, sort: Sort) -> Result<Vec<
     }
 }
 
-// The lines of a stop.
+// What is written of a stop.
 fn told_stop<'x>(
     alloc: Global,
     file: &str,
@@ -120,16 +145,17 @@ fn told_stop<'x>(
     stop: &Stop,
     part: &Json<'_>,
     names: &'x [&'x str],
+    how: How,
 ) -> Result<Vec<u8>, Memory>
     requires { IsUtf8 text.now }
-    ensures { IfOk result (λ lines.
-        IsToldAt file.now text.now (view json.now) (place_of stop.now part.now) (map (λ name. name.now) names.now) lines.items) }
+    ensures { IfOk result (λ written.
+        IsToldAt how file.now text.now (view json.now) (place_of stop.now part.now) (map (λ name. name.now) names.now) written.items) }
 {
     let indexes = indexes_of(alloc, json, &stop.path)?;
     let keys = keys_in(alloc, part)?;
     let mut scratch = Scratch::new(alloc);
-    let found = begins(alloc, text, &mut scratch, &indexes)?;
-    let first = first_spot(alloc, text, json, &stop.path, stop.sort)?;
+    let found = begins(alloc, text, &mut scratch, &indexes, how.depth)?;
+    let first = first_spot(alloc, text, json, &stop.path, stop.sort, how.depth)?;
     let told = Told {
         path: &stop.path,
         spot: found.0,
@@ -140,7 +166,22 @@ fn told_stop<'x>(
         first,
         names,
     };
-    told_lines(alloc, file, &told)
+    spelled(alloc, file, &told, how.spelling)
+}
+
+// What is told of a part, as it is written.
+fn spelled(
+    alloc: Global,
+    file: &str,
+    told: &Told<'_, '_>,
+    spelling: Spelling,
+) -> Result<Vec<u8>, Memory>
+    ensures { IfOk result (λ written. written.items ≡ spelled spelling file.now (seen told.now)) }
+{
+    match spelling {
+        Spelling::Lines => told_lines(alloc, file, told),
+        Spelling::Members => told_members(alloc, file, told),
+    }
 }
 
 // Where the first entry with its key begins, of one that is given again at the end of a path.
@@ -150,12 +191,13 @@ fn first_spot(
     json: &Json<'_>,
     path: &[Step],
     sort: Sort,
+    depth: usize,
 ) -> Result<Option<Spot>, Memory>
     requires { IsUtf8 text.now }
-    ensures { IfOk result (λ first. IsFirst text.now json.now path.now sort first) }
+    ensures { IfOk result (λ first. IsFirst depth text.now json.now path.now sort first) }
 {
     match sort {
-        Sort::Repeated(index) => spot_beside(alloc, text, json, path, index),
+        Sort::Repeated(index) => spot_beside(alloc, text, json, path, index, depth),
         _ => Ok(None),
     }
 }
@@ -167,14 +209,15 @@ fn spot_beside(
     json: &Json<'_>,
     path: &[Step],
     index: usize,
+    depth: usize,
 ) -> Result<Option<Spot>, Memory>
     requires { IsUtf8 text.now }
-    ensures { IfOk result (λ first. IsFirst text.now json.now path.now (Sort.Repeated index) first) }
+    ensures { IfOk result (λ first. IsFirst depth text.now json.now path.now (Sort.Repeated index) first) }
 {
     let other = beside(alloc, path, index)?;
     let indexes = indexes_of(alloc, json, other.as_slice())?;
     let mut scratch = Scratch::new(alloc);
-    let found = begins(alloc, text, &mut scratch, indexes.as_slice())?;
+    let found = begins(alloc, text, &mut scratch, indexes.as_slice(), depth)?;
     Ok(Some(found.0))
 }
 
@@ -184,13 +227,14 @@ fn begins<'a>(
     text: &'a [u8],
     scratch: &'a mut Scratch,
     indexes: &[usize],
+    depth: usize,
 ) -> Result<(Spot, Token<'a>), Memory>
-    ensures { IfOk result (λ found. Begins text.now indexes.now found.0 (token_of found.1)) }
+    ensures { IfOk result (λ found. Begins depth text.now indexes.now found.0 (token_of found.1)) }
 {
     let Ok(characters) = std::str::from_utf8(text) else {
         return Ok((spot_at(text, text.len()), Token::Bad));
     };
-    match beginning_of(characters, scratch, indexes, MAX_DEPTH)? {
+    match beginning_of(characters, scratch, indexes, depth)? {
         Some(beginning) => {
             let offset = sure_offset(alloc, text, beginning.offset, beginning.token)?;
             Ok((spot_at(text, offset), beginning.token))

@@ -10,10 +10,11 @@ use Rattle.json_read_names.specs.declared.fault.JsonFault.TheVariants as json
 use Rattle.marlowe_refusals.specs.declared.fault.RunFault.{RunFault}
 use Rattle.marlowe_refusals.specs.declared.fault.RunFault.TheVariants as run
 use Rattle.marlowe_refusals.specs.Faults.{read_as, contract_fault, state_fault}
-use Rattle.json_read_names.specs.ReadsText.{of_text}
+use Rattle.json_read_names.specs.ReadsText.{of_text_within}
 use Rattle.json_read_contracts.specs.ReadsContract.{contract}
 use Rattle.marlowe_analyse.specs.declared.analysed.Analysed.{Analysed}
 use Rattle.marlowe_analyse.specs.declared.analysed.Reader.{Reader}
+use Rattle.marlowe_run.specs.declared.readable.Readable.{Readable}
 use Rattle.marlowe_run.specs.Start.{start_of}
 use Rattle.marlowe_analyse.specs.Printed.{is_read, IsClear, TellsOfTree, TellsSo}
 use Rattle.marlowe_analyse.specs.RunsSupport.{TellsFrom, is_started}
@@ -34,17 +35,17 @@ the_parts (Ok g) (Ok z) given s c e h =
     let p : ◌≡◌ {A = StateMaps × ContractTree} (z, contract_tree g) (s, c) = cc in
     (ap (λ (q : StateMaps × ContractTree). let y : Result StateMaps JsonFault = Ok q.0 in y) p, ap contract_tree (sym same) ∙ ap (λ (q : StateMaps × ContractTree). q.1) p)
 
-module _ (reader : Reader) (texts : Bool) (text : List ℕ) (start : Option (List ℕ)) (given : Contract) (is : of_text contract text ≡ Ok given) where
-  tells : (clear unreached : Bool) (out : List ℕ) → TellsFrom reader (is_some start) (contract_tree given) (start_of texts start) clear unreached out → TellsSo reader texts text start clear unreached out
+module _ (reader : Reader) (readable : Readable) (text : List ℕ) (start : Option (List ℕ)) (given : Contract) (is : of_text_within readable.depth contract text ≡ Ok given) where
+  tells : (clear unreached : Bool) (out : List ℕ) → TellsFrom reader (is_some start) (contract_tree given) (start_of readable.text_numbers start) clear unreached out → TellsSo reader readable text start clear unreached out
   tells clear unreached out h s c e =
-      let p = the_parts (of_text contract text) (start_of texts start) given s c is e in
+      let p = the_parts (of_text_within readable.depth contract text) (start_of readable.text_numbers start) given s c is e in
       subst (λ (t : ContractTree). TellsOfTree reader (is_some start) s t clear unreached out) p.1 (h s p.0)
 
-  pub all_told_so : (r : Result Analysed RunFault) → IfOk r (λ t. TellsFrom reader (is_some start) (contract_tree given) (start_of texts start) t.is_clear t.has_unreached t.text.items) → IfOk r (λ t. TellsSo reader texts text start t.is_clear t.has_unreached t.text.items)
+  pub all_told_so : (r : Result Analysed RunFault) → IfOk r (λ t. TellsFrom reader (is_some start) (contract_tree given) (start_of readable.text_numbers start) t.is_clear t.has_unreached t.text.items) → IfOk r (λ t. TellsSo reader readable text start t.is_clear t.has_unreached t.text.items)
   all_told_so (Ok t) h = tells t.is_clear t.has_unreached t.text.items h
   all_told_so (Err f) h = tt
 
-  pub is_clear_so : (r : Result Analysed RunFault) → IfOk r (λ t. TellsFrom reader (is_some start) (contract_tree given) (start_of texts start) t.is_clear t.has_unreached t.text.items) → IfOk r (λ t. t.is_clear ≡ true → IsClear texts text start)
+  pub is_clear_so : (r : Result Analysed RunFault) → IfOk r (λ t. TellsFrom reader (is_some start) (contract_tree given) (start_of readable.text_numbers start) t.is_clear t.has_unreached t.text.items) → IfOk r (λ t. t.is_clear ≡ true → IsClear readable text start)
   is_clear_so (Ok t) h = λ e s c q. never_alarms reader (is_some start) s c t.is_clear t.has_unreached t.text.items (tells t.is_clear t.has_unreached t.text.items h s c q) e
   is_clear_so (Err f) h = tt
 
@@ -54,14 +55,14 @@ same_read (Err f) r given e = absurd (cc)
 same_read (Ok g) (Err f) given e = refl
 same_read (Ok g) (Ok z) given e = refl
 
-pub read_as_started : (texts : Bool) (text : List ℕ) (start : Option (List ℕ)) (given : Contract) (r : Result Analysed RunFault) → of_text contract text ≡ Ok given → AsideBy run.Memory (λ _. tt) r (is_started (start_of texts start)) → AsideBy run.Memory (λ _. tt) r (is_read texts text start)
-read_as_started texts text start given r e h = subst (λ (a : Result (Unit {0}) RunFault). AsideBy run.Memory (λ _. tt) r a) (same_read (of_text contract text) (start_of texts start) given e) h
+pub read_as_started : (readable : Readable) (text : List ℕ) (start : Option (List ℕ)) (given : Contract) (r : Result Analysed RunFault) → of_text_within readable.depth contract text ≡ Ok given → AsideBy run.Memory (λ _. tt) r (is_started (start_of readable.text_numbers start)) → AsideBy run.Memory (λ _. tt) r (is_read readable text start)
+read_as_started readable text start given r e h = subst (λ (a : Result (Unit {0}) RunFault). AsideBy run.Memory (λ _. tt) r a) (same_read (of_text_within readable.depth contract text) (start_of readable.text_numbers start) given e) h
 
 fault_of : (o : Result Contract JsonFault) (r : Result StateMaps JsonFault) (f : JsonFault) (g : RunFault) → (f ≢ json.Memory → o ≡ Err f) → g ≡ contract_fault f → g ≢ run.Memory → are_read o r ≡ Err g
 fault_of o r f g h e n = ap (λ (z : Result Contract JsonFault). are_read z r) (h (λ m. n (e ∙ ap contract_fault m))) ∙ ap (λ (x : RunFault). let y : Result (Unit {0}) RunFault = Err x in y) (sym e)
 
-pub not_read : (texts : Bool) (text : List ℕ) (start : Option (List ℕ)) (f : JsonFault) (g : RunFault) → (f ≢ json.Memory → of_text contract text ≡ Err f) → g ≡ contract_fault f → g ≢ run.Memory → is_read texts text start ≡ Err g
-not_read texts text start f g h e n = fault_of (of_text contract text) (start_of texts start) f g h e n
+pub not_read : (readable : Readable) (text : List ℕ) (start : Option (List ℕ)) (f : JsonFault) (g : RunFault) → (f ≢ json.Memory → of_text_within readable.depth contract text ≡ Err f) → g ≡ contract_fault f → g ≢ run.Memory → is_read readable text start ≡ Err g
+not_read readable text start f g h e n = fault_of (of_text_within readable.depth contract text) (start_of readable.text_numbers start) f g h e n
 
 -- where the state is read
 pub tells_from : (reader : Reader) (given : Bool) (c : ContractTree) (start : Result StateMaps JsonFault) (s : StateMaps) (clear unreached : Bool) (out : List ℕ) → start ≡ Ok s → TellsOfTree reader given s c clear unreached out → TellsFrom reader given c start clear unreached out

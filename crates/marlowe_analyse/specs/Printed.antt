@@ -3,7 +3,7 @@ use Rattle.std.specs.Prelude.{◌≡◌, ◌↔◌, ℕ, ℤ, Bool, true, false,
 use Rattle.collections.specs.Answers.{◌>>=◌}
 use Rattle.contract.specs.Tree.{ContractTree, contract_tree}
 use Rattle.states.specs.States.{StateMaps}
-use Rattle.json_read_names.specs.ReadsText.{of_text}
+use Rattle.json_read_names.specs.ReadsText.{of_text_within}
 use Rattle.json_read_contracts.specs.ReadsContract.{contract}
 use Rattle.analysis_spec.specs.declared.paid.PaidRange.{PaidRange}
 use Rattle.analysis_spec.specs.declared.path.PathStep.{PathStep}
@@ -14,6 +14,7 @@ use Rattle.marlowe_refusals.specs.declared.fault.RunFault.{RunFault}
 use Rattle.marlowe_refusals.specs.Faults.{read_as, contract_fault, state_fault}
 use Rattle.marlowe_analyse.specs.declared.analysed.Reader.{Reader}
 use Rattle.marlowe_analyse.specs.declared.analysed.Reader.TheVariants.{People, Tools, PeopleWithoutRuns, ToolsWithoutRuns}
+use Rattle.marlowe_run.specs.declared.readable.Readable.{Readable}
 use Rattle.marlowe_run.specs.Start.{start_of}
 use Rattle.marlowe_analyse.specs.Told.{Alarms, IsSo, NeverAlarms}
 use Rattle.marlowe_analyse.specs.ToldLines.{Line, line_at}
@@ -28,16 +29,19 @@ printed Tools given first lines places ranges out losses = told_line true first 
 printed PeopleWithoutRuns given first lines places ranges out losses = lines_of false lines places ranges ++ (out_line out ++ (losses_lines given losses ++ start_line given))
 printed ToolsWithoutRuns given first lines places ranges out losses = told_line false first lines places ranges out losses
 
--- the contract is read first, and then the state, whose numbers may be texts where that is said
-abbrev pub what_is_read : Bool → List ℕ → Option (List ℕ) → Result (StateMaps × ContractTree) RunFault
-what_is_read texts text start = read_as contract_fault (of_text contract text) >>= λ given. read_as state_fault (start_of texts start) >>= λ s. Ok (s, contract_tree given)
+-- the contract is read first, within its depth, and then the state, whose numbers may be texts where that is said
+abbrev pub what_is_read : Readable → List ℕ → Option (List ℕ) → Result (StateMaps × ContractTree) RunFault
+what_is_read readable text start =
+    read_as contract_fault (of_text_within readable.depth contract text) >>= λ given.
+    read_as state_fault (start_of readable.text_numbers start) >>= λ s.
+    Ok (s, contract_tree given)
 
 -- or why one of them isn't
-abbrev pub is_read : Bool → List ℕ → Option (List ℕ) → Result (Unit {0}) RunFault
-is_read texts text start = what_is_read texts text start >>= λ _. Ok tt
+abbrev pub is_read : Readable → List ℕ → Option (List ℕ) → Result (Unit {0}) RunFault
+is_read readable text start = what_is_read readable text start >>= λ _. Ok tt
 
-abbrev pub IsReadAs : Bool → List ℕ → Option (List ℕ) → StateMaps → ContractTree → Type 0
-IsReadAs texts text start s c = what_is_read texts text start ≡ Ok (s, c)
+abbrev pub IsReadAs : Readable → List ℕ → Option (List ℕ) → StateMaps → ContractTree → Type 0
+IsReadAs readable text start s c = what_is_read readable text start ≡ Ok (s, c)
 
 -- what is printed tells what is so of a contract and a state. It is said to be clear where there is no alarm, and to have
 -- unreached parts where one is told
@@ -48,9 +52,9 @@ TellsOfTree reader given s c clear unreached out =
     × (clear ≡ true ↔ alarms ≡ []) × (unreached ≡ false ↔ places ≡ [])
 
 -- .. of those that the texts are read as
-abbrev pub TellsSo : Reader → Bool → List ℕ → Option (List ℕ) → Bool → Bool → List ℕ → Type 0
-TellsSo reader texts text start clear unreached out = (s : StateMaps) (c : ContractTree) → IsReadAs texts text start s c → TellsOfTree reader (is_some start) s c clear unreached out
+abbrev pub TellsSo : Reader → Readable → List ℕ → Option (List ℕ) → Bool → Bool → List ℕ → Type 0
+TellsSo reader readable text start clear unreached out = (s : StateMaps) (c : ContractTree) → IsReadAs readable text start s c → TellsOfTree reader (is_some start) s c clear unreached out
 
 -- it never warns, and stays within 128 bits
-abbrev pub IsClear : Bool → List ℕ → Option (List ℕ) → Type 0
-IsClear texts text start = (s : StateMaps) (c : ContractTree) → IsReadAs texts text start s c → NeverAlarms s c
+abbrev pub IsClear : Readable → List ℕ → Option (List ℕ) → Type 0
+IsClear readable text start = (s : StateMaps) (c : ContractTree) → IsReadAs readable text start s c → NeverAlarms s c

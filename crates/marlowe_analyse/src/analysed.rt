@@ -20,9 +20,9 @@ use analysis::analyse;
 use analysis_walk::Analysis;
 use collections::Memory;
 use contract::{Contract, State};
-use contract_json::read_contract;
+use contract_json::read_contract_within;
 use marlowe_refusals::RunFault;
-use marlowe_run::{beside_dropped, read_start};
+use marlowe_run::{Readable, beside_dropped, read_start};
 use std::alloc::Global;
 
 /// Who reads what is printed.
@@ -49,8 +49,8 @@ pub struct Analysed {
 }
 
 /// Analyses a contract from a state, both as JSON texts of at most 1,048,576 bytes; without a state its runs start
-/// without entries, at time 0. With `texts` a number of the state may also be a text of its digits, as outcomes
-/// have it where JSON lacks it. Refused is a text that is no contract or no state. For each alarm it looks for a run
+/// without entries, at time 0. The contract nests no deeper than is readable, and a number of the state may be a text of its
+/// digits, as outcomes have it where JSON lacks it, where that is readable. Refused is a text that is no contract or no state. For each alarm it looks for a run
 /// that ends in it, unless the reader wants none. All searches together do no more work than the length of the texts allows.
 /// Alarms stand in the order of the contract, none twice, and so do the parts that are told to be never reached, none below
 /// another. A least is told only where a run is known that closes the contract. From when on all can be taken out is told
@@ -59,18 +59,18 @@ pub fn analyse_text(
     alloc: Global,
     contract: &[u8],
     state: Option<&[u8]>,
-    texts: bool,
+    readable: Readable,
     reader: Reader,
 ) -> Result<Analysed, RunFault>
     ensures told { IfOk result (λ told.
-        TellsSo reader texts contract.now (text_given state.entry) told.is_clear told.has_unreached told.text.items) }
-    ensures clear { IfOk result (λ told. told.is_clear ≡ true → IsClear texts contract.now (text_given state.entry)) }
-    ensures read { AsideBy RunFault.Memory (λ _. tt) result (is_read texts contract.now (text_given state.entry)) }
+        TellsSo reader readable contract.now (text_given state.entry) told.is_clear told.has_unreached told.text.items) }
+    ensures clear { IfOk result (λ told. told.is_clear ≡ true → IsClear readable contract.now (text_given state.entry)) }
+    ensures read { AsideBy RunFault.Memory (λ _. tt) result (is_read readable contract.now (text_given state.entry)) }
 {
     let length = contract.len().saturating_add(length_of(state));
-    match read_contract(alloc, contract) {
+    match read_contract_within(alloc, contract, readable.depth) {
         Ok(given) => {
-            let told = analysed_from(alloc, &given, state, texts, length, reader);
+            let told = analysed_from(alloc, &given, state, readable.text_numbers, length, reader);
             beside_dropped(given, told)
         }
         Err(fault) => Err(RunFault::of_contract(fault)),
@@ -100,9 +100,9 @@ fn analysed_from(
     }
 }
 
-// What is printed of a contract that starts in a state, which may be given or the one without entries; the texts have so
-// many bytes.
-fn analysis_text(
+/// What is printed of a contract that starts in a state, which may be given or the one without entries: what `analyse_text` prints once
+/// all is read of texts that have so many bytes together.
+pub fn analysis_text(
     alloc: Global,
     contract: &Contract,
     state: &State,

@@ -11,4 +11,4 @@ mod told;
 mod tools;
 mod unreached;
 
-pub use analysed::{Analysed, Reader, analyse_text};
+pub use analysed::{Analysed, Reader, analyse_text, analysis_text};

@@ -1,5 +1,5 @@
 -- What a task says of the words of a command line.
-use Rattle.std.specs.Prelude.{◌≡◌, Bool, ℤ, List, [], Some, None, Option, option_map, unwrap_or, map, true, false, codes}
+use Rattle.std.specs.Prelude.{◌≡◌, ◌≤◌, ◌&&◌, ℕ, Bool, ℤ, pos, List, [], Some, None, Option, option_map, unwrap_or, map, true, false, codes}
 use Rattle.std.specs.Str.Parse.{IsNumeral, signed_digits_value, without_leading_sign}
 use Rattle.clap.specs.Words.{Row, Text, all_of, first_of, one_of}
 use Rattle.marlowe_cli.specs.declared.analyse.AnalyseTask.{AnalyseTask}
@@ -22,6 +22,15 @@ abbrev pub IsTime : Option Text → Option ℤ → Type 0
 IsTime None time = time ≡ None
 IsTime (Some text) time = IsNumeral 10 (without_leading_sign text) × (time ≡ Some (signed_digits_value 10 text))
 
+-- how deep lists and objects may nest: 127 levels, or the number that the text says, from 127 to 4,000
+abbrev pub IsDepth : Option Text → ℕ → Type 0
+IsDepth None depth = depth ≡ 127
+IsDepth (Some text) depth = IsNumeral 10 (without_leading_sign text) × (pos depth ≡ signed_digits_value 10 text) × (127 ≤ depth) × (depth ≤ 4000)
+
+-- JSON, whose refusals have all that is explained, or explanations for people, and not both
+abbrev pub AreApart : Bool → Bool → Type 0
+AreApart json explain = json && explain ≡ false
+
 -- the words that were given for an argument, in their order
 abbrev pub given_for : Text → List Row → List Text
 given_for name words = unwrap_or (all_of name words) []
@@ -32,16 +41,22 @@ abbrev pub AsksRun : List Row → RunTask → Type 0
 AsksRun words task = (first_of (codes "CONTRACT") words ≡ Some task.contract.now)
     × (first_of (codes "STATE") words ≡ Some task.state.now)
     × (first_of (codes "TX") words ≡ Some task.transaction.now)
+    × IsFlag (one_of (codes "json") words) task.json
+    × IsDepth (one_of (codes "depth") words) task.depth
     × IsFlag (one_of (codes "text-numbers") words) task.text_numbers
     × IsFlag (one_of (codes "explain") words) task.explain
+    × AreApart task.json task.explain
 
 abbrev pub AsksTrace : List Row → TraceTask → Type 0
 AsksTrace words task = (first_of (codes "CONTRACT") words ≡ Some task.contract.now)
     × (given_for (codes "TX") words ≡ map (λ path. path.now) task.transactions.items)
     × (first_of (codes "state") words ≡ option_map (λ path. path.now) task.state)
     × IsFlag (one_of (codes "last") words) task.last
+    × IsFlag (one_of (codes "json") words) task.json
+    × IsDepth (one_of (codes "depth") words) task.depth
     × IsFlag (one_of (codes "text-numbers") words) task.text_numbers
     × IsFlag (one_of (codes "explain") words) task.explain
+    × AreApart task.json task.explain
 
 abbrev pub AsksNext : List Row → NextTask → Type 0
 AsksNext words task = (first_of (codes "CONTRACT") words ≡ Some task.contract.now)
@@ -50,11 +65,17 @@ AsksNext words task = (first_of (codes "CONTRACT") words ≡ Some task.contract.
     × IsTime (one_of (codes "to") words) task.to
     × (given_for (codes "after") words ≡ map (λ path. path.now) task.after.items)
     × IsFlag (one_of (codes "json") words) task.json
+    × IsDepth (one_of (codes "depth") words) task.depth
     × IsFlag (one_of (codes "text-numbers") words) task.text_numbers
     × IsFlag (one_of (codes "explain") words) task.explain
+    × AreApart task.json task.explain
 
 abbrev pub AsksTable : List Row → TableTask → Type 0
-AsksTable words task = (first_of (codes "CONTRACT") words ≡ Some task.contract.now) × IsFlag (one_of (codes "explain") words) task.explain
+AsksTable words task = (first_of (codes "CONTRACT") words ≡ Some task.contract.now)
+    × IsFlag (one_of (codes "json") words) task.json
+    × IsDepth (one_of (codes "depth") words) task.depth
+    × IsFlag (one_of (codes "explain") words) task.explain
+    × AreApart task.json task.explain
 
 abbrev pub AsksAnalysis : List Row → AnalyseTask → Type 0
 AsksAnalysis words task = (first_of (codes "CONTRACT") words ≡ Some task.contract.now)
@@ -62,13 +83,20 @@ AsksAnalysis words task = (first_of (codes "CONTRACT") words ≡ Some task.contr
     × IsFlag (one_of (codes "json") words) task.json
     × IsFlag (one_of (codes "no-runs") words) task.no_runs
     × IsFlag (one_of (codes "strict") words) task.strict
+    × IsDepth (one_of (codes "depth") words) task.depth
     × IsFlag (one_of (codes "text-numbers") words) task.text_numbers
     × IsFlag (one_of (codes "explain") words) task.explain
+    × AreApart task.json task.explain
 
 abbrev pub AsksPlay : List Row → PlayTask → Type 0
 AsksPlay words task = (first_of (codes "SCENARIO") words ≡ Some task.scenario.now)
     × IsFlag (one_of (codes "one") words) task.one
+    × IsFlag (one_of (codes "strict") words) task.strict
+    × (given_for (codes "expect-open") words ≡ map (λ name. name.now) task.kept_open.items)
+    × IsFlag (one_of (codes "json") words) task.json
+    × IsDepth (one_of (codes "depth") words) task.depth
     × IsFlag (one_of (codes "explain") words) task.explain
+    × AreApart task.json task.explain
 
 -- a task is what is asked, by the command's name and its words
 abbrev pub IsAsked : Option (Text × List Row) → Task → Type 0

@@ -3,7 +3,7 @@ ghost use Rattle.std.specs.Prelude.{IfOk, Some, codes};
 ghost use Rattle.clap.specs.Words.{found_of, rows_of};
 ghost use Rattle.marlowe_cli.specs.Asked.{IsAsked};
 
-use crate::found::{NoTask, is_given, word, word_if};
+use crate::found::{NoTask, depth, is_given, one_spelling, word, word_if};
 use crate::task::Task;
 use clap::ArgMatches;
 
@@ -13,12 +13,14 @@ pub struct AnalyseTask<'a> {
     pub contract: &'a str,
     /// The state from which it starts, if one is given.
     pub state: Option<&'a str>,
-    /// As JSON, and not as lines for people.
+    /// As JSON, a refusal too, and not as lines for people.
     pub json: bool,
     /// No run is looked for, and else one for each alarm.
     pub no_runs: bool,
     /// Status 3 also where a part is told that no run reaches.
     pub strict: bool,
+    /// How deep lists and objects of a contract may nest: from 127 to 4,000 levels.
+    pub depth: usize,
     /// Numbers of the state may be texts.
     pub text_numbers: bool,
     /// Lines behind a refusal say where and why.
@@ -29,13 +31,17 @@ pub struct AnalyseTask<'a> {
 pub(crate) fn analyse_task<'a>(analyse: &ArgMatches<'a>) -> Result<Task<'a>, NoTask>
     ensures { IfOk result (IsAsked (Some (codes "analyse", rows_of (found_of analyse.now)))) }
 {
+    let json = is_given(analyse, "json");
+    let explain = is_given(analyse, "explain");
+    one_spelling(json, explain)?;
     Ok(Task::Analyse(AnalyseTask {
         contract: word(analyse, "CONTRACT")?,
         state: word_if(analyse, "STATE"),
-        json: is_given(analyse, "json"),
+        json,
         no_runs: is_given(analyse, "no-runs"),
         strict: is_given(analyse, "strict"),
+        depth: depth(analyse)?,
         text_numbers: is_given(analyse, "text-numbers"),
-        explain: is_given(analyse, "explain"),
+        explain,
     }))
 }

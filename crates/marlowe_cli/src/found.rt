@@ -1,7 +1,7 @@
 //! What was found for the arguments of a command.
-ghost use Rattle.std.specs.Prelude.{◌≡◌, IfOk, map, option_map};
+ghost use Rattle.std.specs.Prelude.{◌≡◌, ◌≤◌, pos, IfOk, OnOk, codes, map, option_map};
 ghost use Rattle.clap.specs.Words.{first_of, found_of, one_of, rows_of};
-ghost use Rattle.marlowe_cli.specs.Asked.{IsFlag, IsTime, given_for};
+ghost use Rattle.marlowe_cli.specs.Asked.{AreApart, IsDepth, IsFlag, IsTime, given_for};
 
 use clap::ArgMatches;
 use std::alloc::{AllocError, Global};
@@ -12,6 +12,8 @@ use std::num::ParseIntError;
 pub enum NoTask {
     /// An argument lacks, or is no number: `clap` refuses such words before.
     Missing,
+    /// Both JSON and explanations for people are wanted.
+    Both,
     /// Memory was refused.
     Memory,
 }
@@ -71,4 +73,36 @@ pub fn time_if(found: &ArgMatches<'_>, name: &str) -> Result<Option<i64>, NoTask
     ensures { IfOk result (IsTime (one_of name.now (rows_of (found_of found.now)))) }
 {
     Ok(found.try_get_one::<i64>(name)?)
+}
+
+/// How deep lists and objects may nest: 127 levels where nothing else was given.
+pub fn depth(found: &ArgMatches<'_>) -> Result<usize, NoTask>
+    ensures { IfOk result (IsDepth (one_of (codes "depth") (rows_of (found_of found.now)))) }
+{
+    match time_if(found, "depth")? {
+        Some(depth) => depth_within(depth),
+        None => Ok(127),
+    }
+}
+
+// A depth that `clap` lets through.
+fn depth_within(depth: i64) -> Result<usize, NoTask>
+    ensures { IfOk result (λ n. (pos n ≡ depth) × (127 ≤ n) × (n ≤ 4000)) }
+{
+    if 127 <= depth && depth <= 4_000 {
+        Ok(depth as usize)
+    } else {
+        Err(NoTask::Missing)
+    }
+}
+
+/// Refuses JSON with explanations for people.
+pub fn one_spelling(json: bool, explain: bool) -> Result<(), NoTask>
+    ensures { OnOk result (AreApart json explain) }
+{
+    if json && explain {
+        Err(NoTask::Both)
+    } else {
+        Ok(())
+    }
 }

@@ -3,7 +3,7 @@ ghost use Rattle.std.specs.Prelude.{IfOk, Some, codes};
 ghost use Rattle.clap.specs.Words.{found_of, rows_of};
 ghost use Rattle.marlowe_cli.specs.Asked.{IsAsked};
 
-use crate::found::{NoTask, is_given, time_if, word, word_if, words_for};
+use crate::found::{NoTask, depth, is_given, one_spelling, time_if, word, word_if, words_for};
 use crate::task::Task;
 use clap::ArgMatches;
 use std::alloc::Global;
@@ -20,8 +20,10 @@ pub struct NextTask<'a> {
     pub to: Option<i64>,
     /// Each has transactions, which are computed before, in this order.
     pub after: Vec<&'a str>,
-    /// As JSON, and not as lines for people.
+    /// As JSON, a refusal too, and not as lines for people.
     pub json: bool,
+    /// How deep lists and objects of a contract may nest: from 127 to 4,000 levels.
+    pub depth: usize,
     /// Numbers of the state may be texts.
     pub text_numbers: bool,
     /// Lines behind a refusal say where and why.
@@ -32,14 +34,18 @@ pub struct NextTask<'a> {
 pub(crate) fn next_task<'a>(alloc: Global, next: &ArgMatches<'a>) -> Result<Task<'a>, NoTask>
     ensures { IfOk result (IsAsked (Some (codes "next", rows_of (found_of next.now)))) }
 {
+    let json = is_given(next, "json");
+    let explain = is_given(next, "explain");
+    one_spelling(json, explain)?;
     Ok(Task::Next(NextTask {
         contract: word(next, "CONTRACT")?,
         state: word_if(next, "STATE"),
         from: time_if(next, "from")?,
         to: time_if(next, "to")?,
         after: words_for(alloc, next, "after")?,
-        json: is_given(next, "json"),
+        json,
+        depth: depth(next)?,
         text_numbers: is_given(next, "text-numbers"),
-        explain: is_given(next, "explain"),
+        explain,
     }))
 }

@@ -3,7 +3,7 @@ ghost use Rattle.std.specs.Prelude.{IfOk, Some, codes};
 ghost use Rattle.clap.specs.Words.{found_of, rows_of};
 ghost use Rattle.marlowe_cli.specs.Asked.{IsAsked};
 
-use crate::found::{NoTask, is_given, word};
+use crate::found::{NoTask, depth, is_given, one_spelling, word};
 use crate::task::Task;
 use clap::ArgMatches;
 
@@ -13,6 +13,10 @@ pub struct RunTask<'a> {
     pub contract: &'a str,
     pub state: &'a str,
     pub transaction: &'a str,
+    /// JSON for tools, a refusal too.
+    pub json: bool,
+    /// How deep lists and objects of a contract may nest: from 127 to 4,000 levels.
+    pub depth: usize,
     /// Numbers of the state may be texts.
     pub text_numbers: bool,
     /// Lines behind a refusal say where and why.
@@ -23,11 +27,16 @@ pub struct RunTask<'a> {
 pub(crate) fn run_task<'a>(run: &ArgMatches<'a>) -> Result<Task<'a>, NoTask>
     ensures { IfOk result (IsAsked (Some (codes "run", rows_of (found_of run.now)))) }
 {
+    let json = is_given(run, "json");
+    let explain = is_given(run, "explain");
+    one_spelling(json, explain)?;
     Ok(Task::Run(RunTask {
         contract: word(run, "CONTRACT")?,
         state: word(run, "STATE")?,
         transaction: word(run, "TX")?,
+        json,
+        depth: depth(run)?,
         text_numbers: is_given(run, "text-numbers"),
-        explain: is_given(run, "explain"),
+        explain,
     }))
 }

@@ -3,7 +3,7 @@ ghost use Rattle.std.specs.Prelude.{IfOk, Some, codes};
 ghost use Rattle.clap.specs.Words.{found_of, rows_of};
 ghost use Rattle.marlowe_cli.specs.Asked.{IsAsked};
 
-use crate::found::{NoTask, is_given, word, word_if, words_for};
+use crate::found::{NoTask, depth, is_given, one_spelling, word, word_if, words_for};
 use crate::task::Task;
 use clap::ArgMatches;
 use std::alloc::Global;
@@ -18,6 +18,10 @@ pub struct TraceTask<'a> {
     pub state: Option<&'a str>,
     /// The last outcome alone.
     pub last: bool,
+    /// JSON for tools, a refusal too.
+    pub json: bool,
+    /// How deep lists and objects of a contract may nest: from 127 to 4,000 levels.
+    pub depth: usize,
     /// Numbers of the state may be texts.
     pub text_numbers: bool,
     /// Lines behind a refusal say where and why.
@@ -28,12 +32,17 @@ pub struct TraceTask<'a> {
 pub(crate) fn trace_task<'a>(alloc: Global, trace: &ArgMatches<'a>) -> Result<Task<'a>, NoTask>
     ensures { IfOk result (IsAsked (Some (codes "trace", rows_of (found_of trace.now)))) }
 {
+    let json = is_given(trace, "json");
+    let explain = is_given(trace, "explain");
+    one_spelling(json, explain)?;
     Ok(Task::Trace(TraceTask {
         contract: word(trace, "CONTRACT")?,
         transactions: words_for(alloc, trace, "TX")?,
         state: word_if(trace, "state"),
         last: is_given(trace, "last"),
+        json,
+        depth: depth(trace)?,
         text_numbers: is_given(trace, "text-numbers"),
-        explain: is_given(trace, "explain"),
+        explain,
     }))
 }

@@ -1,2 +1,2 @@
 mod TaskLemmas
-mod ExplainedLemmas
+mod ShownLemmas

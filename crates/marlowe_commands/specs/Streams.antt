@@ -1,8 +1,18 @@
--- What is printed: on which stream, and with which status.
-use Rattle.std.specs.Prelude.{◌≡◌, ◌⊎◌, ℕ, Bool, true, false, List, [], ◌∷◌, ◌++◌}
-use Rattle.marlowe_refusals.specs.declared.trace_fault.TraceFault.{TraceFault}
-use Rattle.marlowe_refusals.specs.Refusals.{trace_refusal}
+-- What a command says, and how it is shown: on which stream, and with which status.
+use Rattle.std.specs.Prelude.{◌≡◌, ◌⊎◌, ℕ, Bool, true, false, List, [], ◌∷◌, ◌++◌, codes}
+use Rattle.serde_json.specs.Data.{string}
+use Rattle.json_members.specs.Members.{next_member}
+use Rattle.json_members.specs.declared.spelling.Spelling.{Spelling}
+use Rattle.json_members.specs.declared.spelling.Spelling.TheVariants.{Lines, Members}
+use Rattle.refusal_objects.specs.Objects.{named, refused_line}
+use Rattle.marlowe_commands.specs.declared.face.Face.{Face}
+use Rattle.marlowe_commands.specs.declared.face.Face.TheVariants.{Plain, Explained, Json}
 use Rattle.marlowe_commands.specs.declared.printed.Printed.{Printed}
+use Rattle.marlowe_commands.specs.declared.said.Refusal.{Refusal as Refused}
+use Rattle.marlowe_commands.specs.declared.said.Said.{Said}
+use Rattle.marlowe_commands.specs.declared.said.Said.TheVariants as said
+
+-- ---- what is printed
 
 -- the bytes on standard output and on standard error, and the status
 abbrev pub Streams : Type 0
@@ -11,50 +21,113 @@ Streams = List ℕ × List ℕ × ℕ
 abbrev pub streams_of : Printed → Streams
 streams_of printed = (printed.output.items, printed.errors.items, printed.status)
 
-abbrev pub on_output : List ℕ → ℕ → Streams
-on_output text status = (text, [], status)
+-- ---- what a command says
 
-abbrev pub on_errors : List ℕ → ℕ → Streams
-on_errors text status = ([], text, status)
+-- the line of a refusal, without its line feed, and its status for people; its first members as JSON, and its status for tools
+abbrev pub Refusal : Type 0
+Refusal = (List ℕ × ℕ) × (List ℕ × ℕ)
 
--- outcomes on standard output, and on standard error the line of a refusal, with status 1
-abbrev pub cut_by : List ℕ → List ℕ → Streams
-cut_by text line = (text, line ++ 10 ∷ [], 1)
+-- a text with its status, or a text and the refusal that ends it
+pub data Saying : Type 0 where
+  says : List ℕ → ℕ → Saying
+  refuses : List ℕ → Refusal → Saying
 
--- with status 0 and 3 nothing is on standard error, and with 1 and 2 nothing on standard output; there is no other status
-abbrev pub IsOnOneStream : Streams → Type 0
-IsOnOneStream (output, errors, status) = ((status ≡ 0) ⊎ (status ≡ 3)) × (errors ≡ []) ⊎ ((status ≡ 1) ⊎ (status ≡ 2)) × (output ≡ [])
+abbrev pub refusal_of : Refused → Refusal
+refusal_of r = ((r.line.items, r.status), (r.members.items, r.tool_status))
 
--- .. of a text, with status 0, or of a line that tells why there is none, with this status
-abbrev pub IsTextOr : ℕ → Streams → Type 0
-IsTextOr other (output, errors, status) = (status ≡ 0) × (errors ≡ []) ⊎ (status ≡ other) × (output ≡ [])
+abbrev pub saying_of : Said → Saying
+saying_of (said.Text text status) = says text.items status
+saying_of (said.Refused text r) = refuses text.items (refusal_of r)
 
--- a text on standard output, and the line of a refusal on standard error
-abbrev pub IsCut : Streams → Type 0
-IsCut streams = (text : List ℕ) × (fault : TraceFault) × (streams ≡ cut_by text (trace_refusal fault))
+-- ---- how it is shown
 
--- on one stream; or, where a trace is asked for, outcomes and the refusal that ends them
-abbrev pub IsOnStreams : Type 0 → Streams → Type 0
-IsOnStreams is_trace streams = IsOnOneStream streams ⊎ is_trace × IsCut streams
+-- for people: a refusal on standard error, its line and behind it lines that explain it
+abbrev pub for_people : List ℕ → Refusal → List ℕ → Streams
+for_people text ((line, status), tool) lines = (text, (line ++ 10 ∷ []) ++ lines, status)
 
--- ---- with explanations
+-- for tools: all on standard output, a refusal as an object on a line, with these members behind its first ones
+abbrev pub for_tools : List ℕ → Refusal → List ℕ → Streams
+for_tools text (people, (members, status)) told = (text ++ refused_line members told, [], status)
 
--- lines behind what is on standard error: the rest stays
-abbrev pub with_lines : List ℕ → Streams → Streams
-with_lines lines (output, errors, status) = (output, errors ++ lines, status)
+-- a refusal behind a text
+abbrev pub refused_shown : Face → List ℕ → Refusal → List ℕ → Streams
+refused_shown Plain text refusal told = for_people text refusal []
+refused_shown Explained text refusal told = for_people text refusal told
+refused_shown Json text refusal told = for_tools text refusal told
 
-abbrev pub IsRefusal : Streams → Type 0
-IsRefusal (output, errors, status) = status ≡ 1
+-- a text alone is on standard output, whoever reads it
+abbrev pub shown : Face → Saying → List ℕ → Streams
+shown face (says text status) told = (text, [], status)
+shown face (refuses text refusal) told = refused_shown face text refusal told
 
--- what is printed is what is printed without explanations, and behind a refusal the lines that explain it, or none for want of memory
-pub record IsExplained (Prints : Streams → Type 0) (Explains : List ℕ → Type 0) (streams : Streams) : Type 0 where
-  pub plain : Streams
-  pub prints : Prints plain
-  pub lines : List ℕ
-  pub explains : (lines ≡ []) ⊎ IsRefusal plain × Explains lines
-  pub is : streams ≡ with_lines lines plain
+-- in which spelling a refusal is explained
+abbrev pub spelling_of : Face → Spelling
+spelling_of Plain = Lines
+spelling_of Explained = Lines
+spelling_of Json = Members
 
--- .. where explanations are wanted
-abbrev pub MayExplain : Bool → (Streams → Type 0) → Streams → Type 0
-MayExplain false Prints streams = Prints streams
-MayExplain true Prints streams = IsExplained Prints (λ lines. Unit {0}) streams
+-- a command says something and shows it so. Where it refuses, this is told of it, or nothing for want of memory
+pub record IsShown (face : Face) (Says : Saying → Type 0) (Tells : Spelling → List ℕ → Type 0) (streams : Streams) : Type 0 where
+  pub said : Saying
+  pub is_said : Says said
+  pub told : List ℕ
+  pub tells : (told ≡ []) ⊎ Tells (spelling_of face) told
+  pub is : streams ≡ shown face said told
+
+-- ---- statuses
+
+-- for people 1, and for tools 1 or, where a text isn't read, 4; or 2 for both, where a file can't be read
+abbrev pub IsStatus : Refusal → Type 0
+IsStatus ((line, status), (members, tool)) = (status ≡ 1) × ((tool ≡ 1) ⊎ (tool ≡ 4)) ⊎ (status ≡ 2) × (tool ≡ 2)
+
+-- a text with status 0, or with 3 where there may be alarms; or a refusal, before which is a text only where there may be outcomes
+abbrev pub IsWell : Type 0 → Type 0 → Saying → Type 0
+IsWell alarms outcomes (says text status) = (status ≡ 0) ⊎ alarms × (status ≡ 3)
+IsWell alarms outcomes (refuses text refusal) = ((text ≡ []) ⊎ outcomes) × IsStatus refusal
+
+-- notes behind what is on standard error: the rest stays
+abbrev pub with_notes : List ℕ → Streams → Streams
+with_notes notes (output, errors, status) = (output, errors ++ notes, status)
+
+-- what is printed shows such a saying, and behind it, where explanations are wanted, maybe notes on the texts
+pub record Shows (face : Face) (alarms outcomes : Type 0) (streams : Streams) : Type 0 where
+  pub said : Saying
+  pub is_well : IsWell alarms outcomes said
+  pub told : List ℕ
+  pub notes : List ℕ
+  pub are_explained : (notes ≡ []) ⊎ (face ≡ Explained)
+  pub is : streams ≡ with_notes notes (shown face said told)
+
+-- ---- what that says of the streams
+
+-- a text with status 0, or with status 3 where there may be alarms, and nothing on standard error; or there a refusal with status 1 or 2, and
+-- on standard output nothing, or with status 1 maybe outcomes
+abbrev pub IsForPeople : Type 0 → Type 0 → Streams → Type 0
+IsForPeople alarms outcomes (output, errors, status) =
+    ((status ≡ 0) ⊎ alarms × (status ≡ 3)) × (errors ≡ [])
+    ⊎ ((status ≡ 1) ⊎ (status ≡ 2)) × ((output ≡ []) ⊎ outcomes)
+
+-- the same with notes on standard error
+abbrev pub IsExplained : Type 0 → Type 0 → Streams → Type 0
+IsExplained alarms outcomes (output, errors, status) =
+    (status ≡ 0) ⊎ (alarms × (status ≡ 3) ⊎ ((status ≡ 1) ⊎ (status ≡ 2)) × ((output ≡ []) ⊎ outcomes))
+
+-- all is on standard output
+abbrev pub IsForTools : Type 0 → Streams → Type 0
+IsForTools alarms (output, errors, status) =
+    (errors ≡ []) × ((status ≡ 0) ⊎ ((status ≡ 1) ⊎ ((status ≡ 2) ⊎ ((status ≡ 4) ⊎ alarms × (status ≡ 3)))))
+
+abbrev pub IsFor : Face → Type 0 → Type 0 → Streams → Type 0
+IsFor Plain alarms outcomes streams = IsForPeople alarms outcomes streams
+IsFor Explained alarms outcomes streams = IsExplained alarms outcomes streams
+IsFor Json alarms outcomes streams = IsForTools alarms streams
+
+-- ---- where there is nothing to say
+
+-- the text of the library that reads command lines: help, or what is wrong with one
+abbrev pub IsHelp : Streams → Type 0
+IsHelp (output, errors, status) = (status ≡ 0) × (errors ≡ []) ⊎ (status ≡ 2) × (output ≡ [])
+
+-- a file that can't be read, by its path
+abbrev pub unreadable : List ℕ → Refusal
+unreadable path = ((codes "unreadable " ++ path, 2), (named (codes "file") (codes "unreadable") ++ next_member (codes "file") (string path), 2))

@@ -1,55 +1,100 @@
--- What is printed for each task.
-use Rattle.std.specs.Prelude.{◌≡◌, ◌⊎◌, ◌&&◌, ℕ, Bool, true, false, not, if◌then◌else◌, List, [], ◌∷◌, ◌++◌, Option, Some, None, Result, Ok, Err, codes}
+-- What each command says.
+use Rattle.std.specs.Prelude.{◌≡◌, ◌⊎◌, ◌&&◌, ◌||◌, ℕ, Bool, true, false, not, if◌then◌else◌, List, [], Option, Some, None, Result, Ok, Err, codes}
 use Rattle.clap.specs.Words.{Row, Text, one_of}
+use Rattle.json_read_names.specs.declared.fault.JsonFault.{JsonFault}
+use Rattle.marlowe_refusals.specs.declared.fault.Fault.{Fault}
+use Rattle.marlowe_refusals.specs.declared.fault.Fault.TheVariants as fault
 use Rattle.marlowe_refusals.specs.declared.fault.RunFault.{RunFault}
 use Rattle.marlowe_refusals.specs.declared.table_fault.TableFault.{TableFault}
 use Rattle.marlowe_refusals.specs.declared.trace_fault.TraceFault.{TraceFault}
-use Rattle.marlowe_refusals.specs.Refusals.{run_refusal, table_refusal, trace_refusal}
+use Rattle.marlowe_refusals.specs.Refusals.{json_fault_name, refusal_text}
+use Rattle.refusal_objects.specs.Objects.{fault_members, fault_status, named}
+use Rattle.line_objects.specs.Objects.{lines_object}
+use Rattle.marlowe_run.specs.declared.readable.Readable.{Readable}
 use Rattle.marlowe_trace.specs.Traced.{Told}
 use Rattle.marlowe_next.specs.declared.asked.Asked.{Asked}
 use Rattle.marlowe_next.specs.Answer.{IsAnswer}
 use Rattle.marlowe_next.specs.Question.{Reached, answered}
 use Rattle.marlowe_analyse.specs.declared.analysed.Reader.{Reader}
 use Rattle.marlowe_analyse.specs.Printed.{TellsSo, is_read}
+use Rattle.json_read_names.specs.Parts.{Reading}
+use Rattle.plans.specs.declared.scenario.Scenario.{Scenario}
+use Rattle.marlowe_play.specs.Faults.{play_refusal_text}
+use Rattle.marlowe_play.specs.Played.{IsAnswered, Wanted}
+use Rattle.marlowe_play.specs.declared.fault.PlayFault.{PlayFault}
+use Rattle.marlowe_play.specs.declared.fault.PlayFault.TheVariants as playing
 use Rattle.refusal_reasons.specs.declared.source.Over.{Over}
 use Rattle.marlowe_cli.specs.declared.task.Task.{Task}
 use Rattle.marlowe_cli.specs.declared.task.Task.TheVariants.{Run, Trace, Next, Table, Analyse, Play}
-use Rattle.marlowe_commands.specs.Streams.{Streams, cut_by, on_output, on_errors}
+use Rattle.marlowe_cli.specs.Asked.{IsFlag}
+use Rattle.marlowe_commands.specs.declared.face.Face.{Face}
+use Rattle.marlowe_commands.specs.declared.face.Face.TheVariants.{Plain, Explained, Json}
+use Rattle.marlowe_commands.specs.Streams.{Saying, Refusal, Streams, says, refuses, IsFor, Shows, IsHelp}
 
--- a refusal: a line on standard error, with status 1
-abbrev pub refused : List ℕ → Streams
-refused line = on_errors (line ++ 10 ∷ []) 1
+-- a fault: for people its line, with status 1
+abbrev pub refusal_by : Fault → Refusal
+refusal_by f = ((refusal_text f, 1), (fault_members f, fault_status f))
 
 -- the outcome, or its refusal
-abbrev pub PrintsRun : Result (List ℕ) RunFault → Streams → Type 0
-PrintsRun (Ok text) streams = streams ≡ on_output text 0
-PrintsRun (Err fault) streams = streams ≡ refused (run_refusal fault)
+abbrev pub run_said : Result (List ℕ) RunFault → Saying
+run_said (Ok text) = says text 0
+run_said (Err f) = refuses [] (refusal_by (fault.Run f))
 
 -- the outcomes, and behind them the refusal of the transaction that ends them, if one does; or why none is computed
-abbrev pub PrintsTrace : Result Told TraceFault → Streams → Type 0
-PrintsTrace (Ok (text, None)) streams = streams ≡ on_output text 0
-PrintsTrace (Ok (text, Some fault)) streams = streams ≡ cut_by text (trace_refusal fault)
-PrintsTrace (Err fault) streams = streams ≡ refused (trace_refusal fault)
+abbrev pub trace_said : Result Told TraceFault → Saying
+trace_said (Ok (text, None)) = says text 0
+trace_said (Ok (text, Some f)) = refuses text (refusal_by (fault.Trace f))
+trace_said (Err f) = refuses [] (refusal_by (fault.Trace f))
 
 -- the answer to what is asked where transactions have led, or why there is none
-abbrev pub PrintsNext : Asked → Result Reached TraceFault → Streams → Type 0
-PrintsNext asked reached streams =
-    ((text : List ℕ) × (streams ≡ on_output text 0) × IsAnswer asked reached text)
-    ⊎ ((fault : TraceFault) × (answered asked reached ≡ Err fault) × (streams ≡ refused (trace_refusal fault)))
+abbrev pub SaysNext : Asked → Result Reached TraceFault → Saying → Type 0
+SaysNext asked reached said =
+    ((text : List ℕ) × (said ≡ says text 0) × IsAnswer asked reached text)
+    ⊎ ((f : TraceFault) × (answered asked reached ≡ Err f) × (said ≡ refuses [] (refusal_by (fault.Trace f))))
 
-abbrev pub PrintsTable : Result (List ℕ) TableFault → Streams → Type 0
-PrintsTable (Ok text) streams = streams ≡ on_output text 0
-PrintsTable (Err fault) streams = streams ≡ refused (table_refusal fault)
+-- for tools the lines of a table are texts of a list, `{"lines":[..]}`
+abbrev pub table_answer : Face → List ℕ → List ℕ
+table_answer Plain text = text
+table_answer Explained text = text
+table_answer Json text = lines_object text
+
+abbrev pub table_said : Face → Result (List ℕ) TableFault → Saying
+table_said face (Ok text) = says (table_answer face text) 0
+table_said face (Err f) = refuses [] (refusal_by (fault.Table f))
 
 -- 3 where there is an alarm, or strictly also where a part is told that no run reaches; else 0
 abbrev pub analysis_status : Bool → Bool → Bool → ℕ
 analysis_status strict clear unreached = if clear && not (strict && unreached) then 0 else 3
 
 -- the analysis, with this status; or the refusal of the first text that isn't read
-abbrev pub PrintsAnalysis : Reader → Bool → Bool → List ℕ → Option (List ℕ) → Streams → Type 0
-PrintsAnalysis reader strict texts contract state streams =
-    ((clear unreached : Bool) × (text : List ℕ) × (streams ≡ on_output text (analysis_status strict clear unreached)) × TellsSo reader texts contract state clear unreached text)
-    ⊎ ((fault : RunFault) × (is_read texts contract state ≡ Err fault) × (streams ≡ refused (run_refusal fault)))
+abbrev pub SaysAnalysis : Reader → Bool → Readable → List ℕ → Option (List ℕ) → Saying → Type 0
+SaysAnalysis reader strict readable contract state said =
+    ((clear unreached : Bool) × (text : List ℕ) × (said ≡ says text (analysis_status strict clear unreached)) × TellsSo reader readable contract state clear unreached text)
+    ⊎ ((f : RunFault) × (is_read readable contract state ≡ Err f) × (said ≡ refuses [] (refusal_by (fault.Run f))))
+
+-- why a scenario isn't played: its text isn't read, or its setup has a fault
+abbrev pub play_members : PlayFault → List ℕ
+play_members (playing.Scenario f) = named (codes "scenario") (json_fault_name f)
+play_members (playing.Setup line) = named (codes "setup") (codes "Refused")
+play_members playing.Memory = named (codes "memory") (codes "Memory")
+
+abbrev pub play_status : PlayFault → ℕ
+play_status (playing.Scenario f) = 4
+play_status (playing.Setup line) = 1
+play_status playing.Memory = 1
+
+abbrev pub play_refusal : PlayFault → Refusal
+play_refusal f = ((play_refusal_text f, 1), (play_members f, play_status f))
+
+-- 3 where it is asked whether all went well and not all did; else 0
+abbrev pub well_status : Bool → ℕ
+well_status well = if well then 0 else 3
+
+-- a play of the scenario, with this status, or why it isn't played
+abbrev pub SaysPlay : Reading Scenario → Wanted → Saying → Type 0
+SaysPlay reading wanted said =
+    ((well : Bool) × (text : List ℕ) × (said ≡ says text (well_status well)) × IsAnswered reading wanted text well)
+    ⊎ ((f : PlayFault) × (said ≡ refuses [] (play_refusal f)))
 
 -- the interval that is asked about
 abbrev pub over_of : Asked → Over
@@ -57,32 +102,58 @@ over_of asked = record { from = asked.from; to = asked.to }
 
 -- ---- which task it is
 
-abbrev pub IsAnalysis : Task → Type 0
-IsAnalysis (Analyse task) = Unit {0}
-IsAnalysis other = ⊥
+-- a status of 3 is for an analysis and for a play
+abbrev pub MayAlarm : Task → Type 0
+MayAlarm (Analyse task) = Unit {0}
+MayAlarm (Play task) = Unit {0}
+MayAlarm other = ⊥
 
 abbrev pub IsTrace : Task → Type 0
 IsTrace (Trace task) = Unit {0}
 IsTrace other = ⊥
+
+-- what shows a saying of a task is on these streams
+abbrev pub ShowsOnStreams : Type 0
+ShowsOnStreams = (face : Face) (task : Task) (streams : Streams) → Shows face (MayAlarm task) (IsTrace task) streams → IsFor face (MayAlarm task) (IsTrace task) streams
 
 -- the words of a command line ask for the command of this name
 abbrev pub AsksFor : Text → Option (Text × List Row) → Type 0
 AsksFor name None = ⊥
 AsksFor name (Some (asked, words)) = asked ≡ name
 
--- a task wants lines that explain a refusal
-abbrev pub wants_explanations : Task → Bool
-wants_explanations (Run task) = task.explain
-wants_explanations (Trace task) = task.explain
-wants_explanations (Next task) = task.explain
-wants_explanations (Table task) = task.explain
-wants_explanations (Analyse task) = task.explain
-wants_explanations (Play task) = task.explain
+-- .. for one that may have status 3
+abbrev pub AsksForAlarms : Option (Text × List Row) → Type 0
+AsksForAlarms words = AsksFor (codes "analyse") words ⊎ AsksFor (codes "play") words
 
--- the words of a command line leave out the flag for explanations
-abbrev pub LeavesOut : Option Text → Type 0
-LeavesOut text = (text ≡ None) ⊎ (text ≡ Some (codes "false"))
+-- JSON where it is wanted, and else explanations for people, or their line alone
+abbrev pub face_by : Bool → Bool → Face
+face_by true explain = Json
+face_by false true = Explained
+face_by false false = Plain
 
-abbrev pub WantsNoExplanations : Option (Text × List Row) → Type 0
-WantsNoExplanations None = ⊥
-WantsNoExplanations (Some (asked, words)) = LeavesOut (one_of (codes "explain") words)
+-- how a task wants it shown; explanations also where they are wanted anyhow
+abbrev pub face_of : Bool → Task → Face
+face_of explain (Run task) = face_by task.json (explain || task.explain)
+face_of explain (Trace task) = face_by task.json (explain || task.explain)
+face_of explain (Next task) = face_by task.json (explain || task.explain)
+face_of explain (Table task) = face_by task.json (explain || task.explain)
+face_of explain (Analyse task) = face_by task.json (explain || task.explain)
+face_of explain (Play task) = face_by task.json (explain || task.explain)
+
+-- how the words of a command line want it, by their flags
+pub record WantsFace (explain : Bool) (words : List Row) (face : Face) : Type 0 where
+  pub json : Bool
+  pub explained : Bool
+  pub json_flag : IsFlag (one_of (codes "json") words) json
+  pub explain_flag : IsFlag (one_of (codes "explain") words) explained
+  pub is : face ≡ face_by json (explain || explained)
+
+abbrev pub WantsFaceIn : Bool → Option (Text × List Row) → Face → Type 0
+WantsFaceIn explain None face = ⊥
+WantsFaceIn explain (Some (name, words)) face = WantsFace explain words face
+
+-- what the words of a command line print: what their command says, shown as they want it; or, where they ask for none, help or what is wrong
+abbrev pub IsOfLine : Bool → Option (Text × List Row) → Streams → Type 0
+IsOfLine explain words streams =
+    ((face : Face) × WantsFaceIn explain words face × Shows face (AsksForAlarms words) (AsksFor (codes "trace") words) streams)
+    ⊎ IsHelp streams

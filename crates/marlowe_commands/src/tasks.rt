@@ -1,135 +1,129 @@
-//! The tasks of the program, from texts to what is printed.
-ghost use Rattle.std.specs.Prelude.{◌≡◌, ◌⊎◌, IfOk, map, option_map};
-ghost use Rattle.marlowe_run.specs.Run.{run_by};
-ghost use Rattle.marlowe_run.specs.Start.{state_reading};
-ghost use Rattle.marlowe_run.specs.TableText.{table_text};
+//! What each task says, from texts.
+ghost use Rattle.std.specs.Prelude.{◌≡◌, ◌⊎◌, [], Ok, IfOk, map, option_map};
+ghost use Rattle.marlowe_run.specs.Run.{run_within};
+ghost use Rattle.marlowe_run.specs.TableText.{table_text_within};
 ghost use Rattle.marlowe_trace.specs.Traced.{trace_text};
 ghost use Rattle.marlowe_next.specs.Question.{reached};
-ghost use Rattle.marlowe_commands.specs.Streams.{streams_of, IsOnOneStream, IsCut, IsTextOr};
-ghost use Rattle.marlowe_commands.specs.Tasks.{PrintsRun, PrintsTrace, PrintsNext, PrintsTable, PrintsAnalysis, analysis_status};
+ghost use Rattle.json_read_names.specs.ReadsText.{of_text_within};
+ghost use Rattle.json_read_scenarios.specs.ReadsScenario as reads;
+ghost use Rattle.marlowe_play.specs.Played.{wanted};
+ghost use Rattle.marlowe_commands.specs.Streams.{refusal_of, refuses, saying_of, says};
+ghost use Rattle.marlowe_commands.specs.Tasks.{SaysAnalysis, SaysNext, SaysPlay, analysis_status, play_members, play_refusal, play_status, run_said, table_answer, table_said, trace_said, well_status};
 
-use crate::printed::Printed;
+use crate::face::Face;
+use crate::said::{Refusal, Said};
 use collections::Memory;
+use line_objects::lines_object;
 use marlowe_analyse::{Analysed, Reader, analyse_text};
 use marlowe_next::next;
-use marlowe_play::{How, PlayFault, Watch, play_refusal, play_watched};
-use marlowe_refusals::{Fault, RunFault, TableFault, TraceFault, refusal};
-use marlowe_run::{run, run_with_texts, table_text};
+use marlowe_play::{PlayFault, Played, Watch, play_asked, play_refusal};
+use marlowe_refusals::{Fault, RunFault, TableFault, TraceFault, json_fault_name};
+use marlowe_run::{Readable, run_within, table_text_within};
 use marlowe_trace::{Traced, trace};
+use refusal_objects::named_members;
 use std::alloc::{AllocError, Global};
 use std::sync::Wait;
 use std::thread::Threads;
 
-/// What is printed for one transaction: its outcome, with status 0, or the line of its refusal. Numbers of the state may be `texts`.
-pub fn run_printed(
+/// One transaction: its outcome, with status 0, or its refusal.
+pub fn run_said(
     alloc: Global,
     contract: &[u8],
     state: &[u8],
     transaction: &[u8],
-    texts: bool,
-) -> Result<Printed, Memory>
-    ensures told { IfOk result (λ printed.
-        PrintsRun (run_by (state_reading texts) contract.now state.now transaction.now) (streams_of printed)) }
-    ensures stream { IfOk result (λ printed. IsTextOr 1 (streams_of printed)) }
+    readable: Readable,
+) -> Result<Said, Memory>
+    ensures { IfOk result (λ said. saying_of said ≡ run_said (run_within readable contract.now state.now transaction.now)) }
 {
-    let text = if texts {
-        run_with_texts(alloc, contract, state, transaction)
-    } else {
-        run(alloc, contract, state, transaction)
-    };
-    match text {
-        Ok(text) => Ok(Printed::on_output(alloc, text, 0)),
+    match run_within(alloc, contract, state, transaction, readable) {
+        Ok(text) => Ok(Said::Text(text, 0)),
         Err(RunFault::Memory) => Err(AllocError),
-        Err(fault) => Printed::refusal(alloc, refusal(alloc, &Fault::Run(fault))?),
+        Err(fault) => Said::refused(alloc, Vec::new(alloc), &Fault::Run(fault)),
     }
 }
 
-/// What is printed for transactions one after another: the outcome of each, or of the last alone, with status 0. Where one is refused,
-/// those before it, or nothing where the last alone is wanted, and the line of its refusal on standard error, with status 1; and only
-/// such a line where a text isn't read.
-pub fn trace_printed(
+/// Transactions one after another: the outcome of each, or of the last alone, with status 0. Where one is refused, those before it, or
+/// nothing where the last alone is wanted, and its refusal; and only a refusal where a text isn't read.
+pub fn trace_said(
     alloc: Global,
     contract: &[u8],
     state: Option<&[u8]>,
     transactions: &[Vec<u8>],
     asked: marlowe_trace::Asked,
-) -> Result<Printed, Memory>
-    ensures told { IfOk result (λ printed. PrintsTrace
-        (trace_text asked contract.now (option_map (λ text. text.now) state.entry) (map (λ text. text.items) transactions.now))
-        (streams_of printed)) }
-    ensures stream { IfOk result (λ printed. IsTextOr 1 (streams_of printed) ⊎ IsCut (streams_of printed)) }
+) -> Result<Said, Memory>
+    ensures { IfOk result (λ said. saying_of said ≡ trace_said
+        (trace_text asked contract.now (option_map (λ text. text.now) state.entry) (map (λ text. text.items) transactions.now))) }
 {
     match trace(alloc, contract, state, transactions, asked) {
-        Ok(Traced { text, refused }) => outcomes_printed(alloc, text, refused),
+        Ok(Traced { text, refused }) => outcomes_said(alloc, text, refused),
         Err(TraceFault::Run(RunFault::Memory)) => Err(AllocError),
-        Err(fault) => Printed::refusal(alloc, refusal(alloc, &Fault::Trace(fault))?),
+        Err(fault) => Said::refused(alloc, Vec::new(alloc), &Fault::Trace(fault)),
     }
 }
 
-// What is printed for outcomes, and for the refusal that ends them, if one does.
-fn outcomes_printed(
-    alloc: Global,
-    text: Vec<u8>,
-    refused: Option<TraceFault>,
-) -> Result<Printed, Memory>
-    ensures told { IfOk result (λ printed. PrintsTrace (Ok (text.items, refused)) (streams_of printed)) }
-    ensures stream { IfOk result (λ printed. IsTextOr 1 (streams_of printed) ⊎ IsCut (streams_of printed)) }
+// Outcomes, and the refusal that ends them, if one does.
+fn outcomes_said(alloc: Global, text: Vec<u8>, refused: Option<TraceFault>) -> Result<Said, Memory>
+    ensures { IfOk result (λ said. saying_of said ≡ trace_said (Ok (text.items, refused))) }
 {
     match refused {
-        None => Ok(Printed::on_output(alloc, text, 0)),
-        Some(fault) => Printed::cut(text, refusal(alloc, &Fault::Trace(fault))?),
+        None => Ok(Said::Text(text, 0)),
+        Some(fault) => Said::refused(alloc, text, &Fault::Trace(fault)),
     }
 }
 
-/// What is printed for what can be done next: lines for people or JSON, with status 0, or the line of its refusal.
-pub fn next_printed(
+/// What can be done next, as lines for people or as JSON, with status 0, or a refusal.
+pub fn next_said(
     alloc: Global,
     contract: &[u8],
     state: Option<&[u8]>,
     after: &[Vec<u8>],
     asked: marlowe_next::Asked,
-) -> Result<Printed, Memory>
-    ensures told { IfOk result (λ printed. PrintsNext asked
-        (reached asked contract.now (option_map (λ text. text.now) state.entry) (map (λ text. text.items) after.now))
-        (streams_of printed)) }
-    ensures stream { IfOk result (λ printed. IsTextOr 1 (streams_of printed)) }
+) -> Result<Said, Memory>
+    ensures { IfOk result (λ said. SaysNext asked
+        (reached asked contract.now (option_map (λ text. text.now) state.entry) (map (λ text. text.items) after.now)) (saying_of said)) }
 {
     match next(alloc, contract, state, after, asked) {
-        Ok(text) => Ok(Printed::on_output(alloc, text, 0)),
+        Ok(text) => Ok(Said::Text(text, 0)),
         Err(TraceFault::Run(RunFault::Memory)) => Err(AllocError),
-        Err(fault) => Printed::refusal(alloc, refusal(alloc, &Fault::Trace(fault))?),
+        Err(fault) => Said::refused(alloc, Vec::new(alloc), &Fault::Trace(fault)),
     }
 }
 
-/// What is printed for the table of a contract: its lines, with status 0, or the line of its refusal.
-pub fn table_printed(alloc: Global, contract: &[u8]) -> Result<Printed, Memory>
-    ensures told { IfOk result (λ printed. PrintsTable (table_text contract.now) (streams_of printed)) }
-    ensures stream { IfOk result (λ printed. IsTextOr 1 (streams_of printed)) }
+/// The table of a contract: its lines, or the object of them for tools, with status 0, or a refusal.
+pub fn table_said(alloc: Global, contract: &[u8], depth: usize, face: Face) -> Result<Said, Memory>
+    ensures { IfOk result (λ said. saying_of said ≡ table_said face (table_text_within depth contract.now)) }
 {
-    match table_text(alloc, contract) {
-        Ok(text) => Ok(Printed::on_output(alloc, text, 0)),
+    match table_text_within(alloc, contract, depth) {
+        Ok(text) => Ok(Said::Text(table_answer(alloc, text, face)?, 0)),
         Err(TableFault::Memory) => Err(AllocError),
-        Err(fault) => Printed::refusal(alloc, refusal(alloc, &Fault::Table(fault))?),
+        Err(fault) => Said::refused(alloc, Vec::new(alloc), &Fault::Table(fault)),
     }
 }
 
-/// What is printed for the analysis of a contract from a state: the analysis, with status 0 where the contract never warns and stays
-/// within 128 bits, and 3 where there is an alarm, or with `strict` also where a part is told that no run reaches; or the line of its
-/// refusal. Numbers of the state may be `texts`.
-#[tactic(auto, using(crate::proofs::TaskLemmas::status_printed))]
-pub fn analysis_printed(
+fn table_answer(alloc: Global, text: Vec<u8>, face: Face) -> Result<Vec<u8>, Memory>
+    ensures { IfOk result (λ answer. answer.items ≡ table_answer face text.items) }
+{
+    match face {
+        Face::Plain | Face::Explained => Ok(text),
+        Face::Json => lines_object(alloc, text.as_slice()),
+    }
+}
+
+/// The analysis of a contract from a state, with status 0 where the contract never warns and stays within 128 bits, and 3 where there is
+/// an alarm, or with `strict` also where a part is told that no run reaches; or a refusal.
+#[tactic(auto, using(crate::proofs::TaskLemmas::status_said))]
+pub fn analysis_said(
     alloc: Global,
     contract: &[u8],
     state: Option<&[u8]>,
-    texts: bool,
+    readable: Readable,
     reader: Reader,
     strict: bool,
-) -> Result<Printed, Memory>
-    ensures told { IfOk result (λ printed.
-        PrintsAnalysis reader strict texts contract.now (option_map (λ text. text.now) state.entry) (streams_of printed)) }
-    ensures stream { IfOk result (λ printed. IsOnOneStream (streams_of printed)) }
+) -> Result<Said, Memory>
+    ensures { IfOk result (λ said.
+        SaysAnalysis reader strict readable contract.now (option_map (λ text. text.now) state.entry) (saying_of said)) }
 {
-    match analyse_text(alloc, contract, state, texts, reader) {
+    match analyse_text(alloc, contract, state, readable, reader) {
         Ok(
             Analysed {
                 text,
@@ -138,16 +132,15 @@ pub fn analysis_printed(
             },
         ) => {
             let status = analysis_status(strict, is_clear, has_unreached);
-            Ok(Printed::on_output(alloc, text, status))
+            Ok(Said::Text(text, status))
         }
         Err(RunFault::Memory) => Err(AllocError),
-        Err(fault) => Printed::refusal(alloc, refusal(alloc, &Fault::Run(fault))?),
+        Err(fault) => Said::refused(alloc, Vec::new(alloc), &Fault::Run(fault)),
     }
 }
 
 fn analysis_status(strict: bool, clear: bool, unreached: bool) -> u8
-    ensures told { result ≡ analysis_status strict clear unreached }
-    ensures either { (result ≡ 0) ⊎ (result ≡ 3) }
+    ensures { result ≡ analysis_status strict clear unreached }
 {
     if clear && !(strict && unreached) {
         0
@@ -156,20 +149,65 @@ fn analysis_status(strict: bool, clear: bool, unreached: bool) -> u8
     }
 }
 
-/// What is printed for a play, while somebody is told how far it is: its lines, with status 0, or the line of its refusal. `how` says whether
-/// plans are played one after another, and whether the lines are explained.
-pub fn play_printed<R: AllocGlobal + Threads + Wait + Sync, W: Watch + Sync>(
+/// A play, while somebody is told how far it is: what it tells, with status 0, or with 3 where it is asked whether all went well and not all
+/// did; or a refusal.
+pub fn play_said<R: AllocGlobal + Threads + Wait + Sync, W: Watch + Sync>(
     rt: &R,
     watch: &W,
     scenario: &[u8],
-    how: How,
-) -> Result<Printed, Memory>
-    ensures { IfOk result (λ printed. IsTextOr 1 (streams_of printed)) }
+    asked: marlowe_play::Asked<'_>,
+) -> Result<Said, Memory>
+    ensures { IfOk result (λ said. SaysPlay (of_text_within asked.entry.depth reads.scenario scenario.now)
+        (wanted asked.entry.face asked.entry.strict (map (λ s. s.now) asked.entry.kept_open.now)) (saying_of said)) }
 {
     let alloc = rt.alloc();
-    match play_watched(rt, alloc, scenario, how, watch) {
-        Ok(text) => Ok(Printed::on_output(alloc, text, 0)),
+    match play_asked(rt, alloc, scenario, asked, watch) {
+        Ok(played) => Ok(play_text(played)),
         Err(PlayFault::Memory) => Err(AllocError),
-        Err(fault) => Printed::refusal(alloc, play_refusal(alloc, &fault)?),
+        Err(fault) => play_refused(alloc, fault),
+    }
+}
+
+fn play_text(played: Played) -> Said
+    ensures { saying_of result ≡ says played.text.items (well_status played.well) }
+{
+    let status = played.status();
+    Said::Text(played.text, status)
+}
+
+fn play_refused(alloc: Global, fault: PlayFault) -> Result<Said, Memory>
+    ensures { IfOk result (λ said. saying_of said ≡ refuses [] (play_refusal fault)) }
+{
+    let refusal = play_refusal_of(alloc, &fault)?;
+    Ok(Said::Refused(Vec::new(alloc), refusal))
+}
+
+fn play_refusal_of(alloc: Global, fault: &PlayFault) -> Result<Refusal, Memory>
+    ensures { IfOk result (λ refusal. refusal_of refusal ≡ play_refusal fault.now) }
+{
+    Ok(Refusal {
+        line: play_refusal(alloc, fault)?,
+        status: 1,
+        members: play_members(alloc, fault)?,
+        tool_status: play_status(fault),
+    })
+}
+
+fn play_members(alloc: Global, fault: &PlayFault) -> Result<Vec<u8>, Memory>
+    ensures { IfOk result (λ members. members.items ≡ play_members fault.now) }
+{
+    match fault {
+        PlayFault::Scenario(fault) => named_members(alloc, "scenario", json_fault_name(*fault)),
+        PlayFault::Setup(_) => named_members(alloc, "setup", "Refused"),
+        PlayFault::Memory => named_members(alloc, "memory", "Memory"),
+    }
+}
+
+fn play_status(fault: &PlayFault) -> u8
+    ensures { result ≡ play_status fault.now }
+{
+    match fault {
+        PlayFault::Scenario(_) => 4,
+        PlayFault::Setup(_) | PlayFault::Memory => 1,
     }
 }

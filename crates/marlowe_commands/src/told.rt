@@ -1,21 +1,19 @@
 //! What is printed for a task, whose files are read first: the contract, the state, and then the transactions in the order of the command
 //! line. Explanations name each text by its path.
-ghost use Rattle.std.specs.Prelude.{◌⊎◌, IfOk};
-ghost use Rattle.marlowe_commands.specs.Streams.{streams_of, IsOnOneStream, IsCut, IsTextOr, MayExplain};
+ghost use Rattle.std.specs.Prelude.{IfOk};
+ghost use Rattle.marlowe_commands.specs.Streams.{Shows, streams_of};
 
-use crate::explained::{
-    analysis_explained, next_explained, play_explained, run_explained, table_explained,
-    trace_explained,
-};
+use crate::face::Face;
+use crate::noted::{noted, put_flat, put_notes, scenario_sort, state_sort};
 use crate::printed::Printed;
+use crate::shown::{analysis_shown, next_shown, play_shown, run_shown, table_shown, trace_shown};
 use crate::stops::{Stop, text_if, text_of, texts_of};
-use crate::tasks::{
-    analysis_printed, next_printed, play_printed, run_printed, table_printed, trace_printed,
-};
 use crate::texts::Texts;
+use json_forms::Sort;
 use marlowe_analyse::Reader;
 use marlowe_cli::{AnalyseTask, NextTask, PlayTask, RunTask, TableTask, TraceTask};
-use marlowe_play::{How, Watch};
+use marlowe_play::Watch;
+use marlowe_run::Readable;
 use refusal_reasons::{Source, Sources};
 use std::alloc::Global;
 use std::sync::Wait;
@@ -37,157 +35,172 @@ fn source_if<'a>(path: Option<&'a str>, text: &'a Option<Vec<u8>>) -> Option<Sou
     }
 }
 
-#[tactic(auto, using(crate::proofs::ExplainedLemmas::may_explain))]
+// The notes on a state, if one is given.
+fn put_state_notes(
+    alloc: Global,
+    notes: &mut Vec<u8>,
+    state: Option<Source<'_>>,
+    text_numbers: bool,
+) {
+    if let Some(state) = state {
+        put_flat(alloc, notes, state, state_sort(text_numbers));
+    }
+}
+
+// The notes on texts that are one transaction each: on lists and on lines of them there are none.
+fn put_all_notes(alloc: Global, notes: &mut Vec<u8>, sources: Sources<'_>) {
+    for (path, text) in sources.paths.iter().zip(sources.texts.iter()) {
+        put_flat(alloc, notes, source(path, text), Sort::Transaction);
+    }
+}
+
+#[tactic(auto, using(crate::proofs::ShownLemmas::run_shows, crate::proofs::ShownLemmas::noted_by))]
 pub fn run_told<'a, T: Texts>(
     alloc: Global,
     texts: &T,
     task: RunTask<'a>,
-    explain: bool,
+    face: Face,
 ) -> Result<Printed, Stop<'a>>
-    ensures { IfOk result (λ printed. MayExplain explain (IsTextOr 1) (streams_of printed)) }
+    ensures { IfOk result (λ printed. Shows face ⊥ ⊥ (streams_of printed)) }
 {
     let contract = text_of(alloc, texts, task.contract)?;
     let state = text_of(alloc, texts, task.state)?;
     let transaction = text_of(alloc, texts, task.transaction)?;
-    if explain {
-        let contract = source(task.contract, &contract);
-        let state = source(task.state, &state);
-        let transaction = source(task.transaction, &transaction);
-        let printed = run_explained(alloc, contract, state, transaction, task.text_numbers);
-        return Ok(printed?);
+    let readable = Readable {
+        depth: task.depth,
+        text_numbers: task.text_numbers,
+    };
+    let contract = source(task.contract, &contract);
+    let state = source(task.state, &state);
+    let transaction = source(task.transaction, &transaction);
+    let printed = run_shown(alloc, contract, state, transaction, readable, face)?;
+    let mut notes = Vec::new(alloc);
+    if task.explain && !printed.unread {
+        put_notes(alloc, &mut notes, contract, Sort::Contract, task.depth);
+        put_flat(alloc, &mut notes, state, state_sort(task.text_numbers));
+        put_flat(alloc, &mut notes, transaction, Sort::Transaction);
     }
-    let printed = run_printed(
-        alloc,
-        contract.as_slice(),
-        state.as_slice(),
-        transaction.as_slice(),
-        task.text_numbers,
-    );
-    Ok(printed?)
+    Ok(noted(face, printed, &notes))
 }
 
-#[tactic(auto, using(crate::proofs::ExplainedLemmas::may_explain))]
+#[tactic(auto, using(crate::proofs::ShownLemmas::trace_shows, crate::proofs::ShownLemmas::noted_by))]
 pub fn trace_told<'a, T: Texts>(
     alloc: Global,
     texts: &T,
     task: TraceTask<'a>,
-    explain: bool,
+    face: Face,
 ) -> Result<Printed, Stop<'a>>
-    ensures { IfOk result (λ printed. MayExplain explain (λ plain. IsTextOr 1 plain ⊎ IsCut plain) (streams_of printed)) }
+    ensures { IfOk result (λ printed. Shows face ⊥ (Unit {0}) (streams_of printed)) }
 {
     let contract = text_of(alloc, texts, task.contract)?;
     let state = text_if(alloc, texts, task.state)?;
     let transactions = texts_of(alloc, texts, task.transactions.as_slice())?;
+    let readable = Readable {
+        depth: task.depth,
+        text_numbers: task.text_numbers,
+    };
     let asked = marlowe_trace::Asked {
-        texts: task.text_numbers,
+        readable,
         last: task.last,
     };
-    if explain {
-        let contract = source(task.contract, &contract);
-        let state = source_if(task.state, &state);
-        let transactions = Sources {
-            paths: task.transactions.as_slice(),
-            texts: transactions.as_slice(),
-        };
-        let printed = trace_explained(alloc, contract, state, transactions, asked);
-        return Ok(printed?);
+    let contract = source(task.contract, &contract);
+    let state = source_if(task.state, &state);
+    let transactions = Sources {
+        paths: task.transactions.as_slice(),
+        texts: transactions.as_slice(),
+    };
+    let printed = trace_shown(alloc, contract, state, transactions, asked, face)?;
+    let mut notes = Vec::new(alloc);
+    if task.explain && !printed.unread {
+        put_notes(alloc, &mut notes, contract, Sort::Contract, task.depth);
+        put_state_notes(alloc, &mut notes, state, task.text_numbers);
+        put_all_notes(alloc, &mut notes, transactions);
     }
-    let state = state.as_ref().map(|text| text.as_slice());
-    let printed = trace_printed(
-        alloc,
-        contract.as_slice(),
-        state,
-        transactions.as_slice(),
-        asked,
-    );
-    Ok(printed?)
+    Ok(noted(face, printed, &notes))
 }
 
-#[tactic(auto, using(crate::proofs::ExplainedLemmas::may_explain))]
+#[tactic(auto, using(crate::proofs::ShownLemmas::next_shows, crate::proofs::ShownLemmas::noted_by))]
 pub fn next_told<'a, T: Texts>(
     alloc: Global,
     texts: &T,
     task: NextTask<'a>,
-    explain: bool,
+    face: Face,
 ) -> Result<Printed, Stop<'a>>
-    ensures { IfOk result (λ printed. MayExplain explain (IsTextOr 1) (streams_of printed)) }
+    ensures { IfOk result (λ printed. Shows face ⊥ ⊥ (streams_of printed)) }
 {
     let contract = text_of(alloc, texts, task.contract)?;
     let state = text_if(alloc, texts, task.state)?;
     let after = texts_of(alloc, texts, task.after.as_slice())?;
+    let readable = Readable {
+        depth: task.depth,
+        text_numbers: task.text_numbers,
+    };
     let asked = marlowe_next::Asked {
         from: task.from,
         to: task.to,
-        texts: task.text_numbers,
+        readable,
         json: task.json,
     };
-    if explain {
-        let contract = source(task.contract, &contract);
-        let state = source_if(task.state, &state);
-        let after = Sources {
-            paths: task.after.as_slice(),
-            texts: after.as_slice(),
-        };
-        let printed = next_explained(alloc, contract, state, after, asked);
-        return Ok(printed?);
+    let contract = source(task.contract, &contract);
+    let state = source_if(task.state, &state);
+    let after = Sources {
+        paths: task.after.as_slice(),
+        texts: after.as_slice(),
+    };
+    let printed = next_shown(alloc, contract, state, after, asked, face)?;
+    let mut notes = Vec::new(alloc);
+    if task.explain && !printed.unread {
+        put_notes(alloc, &mut notes, contract, Sort::Contract, task.depth);
+        put_state_notes(alloc, &mut notes, state, task.text_numbers);
+        put_all_notes(alloc, &mut notes, after);
     }
-    let state = state.as_ref().map(|text| text.as_slice());
-    let printed = next_printed(alloc, contract.as_slice(), state, after.as_slice(), asked);
-    Ok(printed?)
+    Ok(noted(face, printed, &notes))
 }
 
-#[tactic(auto, using(crate::proofs::ExplainedLemmas::may_explain))]
+#[tactic(auto, using(crate::proofs::ShownLemmas::table_shows, crate::proofs::ShownLemmas::noted_by))]
 pub fn table_told<'a, T: Texts>(
     alloc: Global,
     texts: &T,
     task: TableTask<'a>,
-    explain: bool,
+    face: Face,
 ) -> Result<Printed, Stop<'a>>
-    ensures { IfOk result (λ printed. MayExplain explain (IsTextOr 1) (streams_of printed)) }
+    ensures { IfOk result (λ printed. Shows face ⊥ ⊥ (streams_of printed)) }
 {
     let contract = text_of(alloc, texts, task.contract)?;
-    if explain {
-        let contract = source(task.contract, &contract);
-        return Ok(table_explained(alloc, contract)?);
+    let contract = source(task.contract, &contract);
+    let printed = table_shown(alloc, contract, task.depth, face)?;
+    let mut notes = Vec::new(alloc);
+    if task.explain && !printed.unread {
+        put_notes(alloc, &mut notes, contract, Sort::Contract, task.depth);
     }
-    Ok(table_printed(alloc, contract.as_slice())?)
+    Ok(noted(face, printed, &notes))
 }
 
-#[tactic(auto, using(crate::proofs::ExplainedLemmas::may_explain))]
+#[tactic(auto, using(crate::proofs::ShownLemmas::analysis_shows, crate::proofs::ShownLemmas::noted_by))]
 pub fn analysis_told<'a, T: Texts>(
     alloc: Global,
     texts: &T,
     task: AnalyseTask<'a>,
-    explain: bool,
+    face: Face,
 ) -> Result<Printed, Stop<'a>>
-    ensures { IfOk result (λ printed. MayExplain explain IsOnOneStream (streams_of printed)) }
+    ensures { IfOk result (λ printed. Shows face (Unit {0}) ⊥ (streams_of printed)) }
 {
     let contract = text_of(alloc, texts, task.contract)?;
     let state = text_if(alloc, texts, task.state)?;
     let reader = reader_of(task.json, task.no_runs);
-    if explain {
-        let contract = source(task.contract, &contract);
-        let state = source_if(task.state, &state);
-        let printed = analysis_explained(
-            alloc,
-            contract,
-            state,
-            task.text_numbers,
-            reader,
-            task.strict,
-        );
-        return Ok(printed?);
+    let readable = Readable {
+        depth: task.depth,
+        text_numbers: task.text_numbers,
+    };
+    let contract = source(task.contract, &contract);
+    let state = source_if(task.state, &state);
+    let printed = analysis_shown(alloc, contract, state, readable, reader, task.strict, face)?;
+    let mut notes = Vec::new(alloc);
+    if task.explain && !printed.unread {
+        put_notes(alloc, &mut notes, contract, Sort::Contract, task.depth);
+        put_state_notes(alloc, &mut notes, state, task.text_numbers);
     }
-    let state = state.as_ref().map(|text| text.as_slice());
-    let printed = analysis_printed(
-        alloc,
-        contract.as_slice(),
-        state,
-        task.text_numbers,
-        reader,
-        task.strict,
-    );
-    Ok(printed?)
+    Ok(noted(face, printed, &notes))
 }
 
 // Who reads an analysis, by its flags.
@@ -200,24 +213,39 @@ fn reader_of(json: bool, no_runs: bool) -> Reader {
     }
 }
 
-#[tactic(auto, using(crate::proofs::ExplainedLemmas::may_explain))]
+// What a play tells, by its flags.
+fn telling(json: bool, explain: bool) -> marlowe_play::Face {
+    match (json, explain) {
+        (true, _) => marlowe_play::Face::Objects,
+        (false, true) => marlowe_play::Face::Explained,
+        (false, false) => marlowe_play::Face::Plain,
+    }
+}
+
+#[tactic(auto, using(crate::proofs::ShownLemmas::play_shows, crate::proofs::ShownLemmas::noted_by))]
 pub fn play_told<'a, T: Texts, R: AllocGlobal + Threads + Wait + Sync, W: Watch + Sync>(
     rt: &R,
     texts: &T,
     watch: &W,
     task: PlayTask<'a>,
-    explain: bool,
+    face: Face,
 ) -> Result<Printed, Stop<'a>>
-    ensures { IfOk result (λ printed. MayExplain explain (IsTextOr 1) (streams_of printed)) }
+    ensures { IfOk result (λ printed. Shows face (Unit {0}) ⊥ (streams_of printed)) }
 {
     let scenario = text_of(rt.alloc(), texts, task.scenario)?;
-    let how = How {
+    let asked = marlowe_play::Asked {
         one: task.one,
-        explain: task.explain,
+        face: telling(task.json, task.explain),
+        depth: task.depth,
+        strict: task.strict,
+        kept_open: task.kept_open.as_slice(),
     };
-    if explain {
-        let scenario = source(task.scenario, &scenario);
-        return Ok(play_explained(rt, watch, scenario, how)?);
+    let scenario = source(task.scenario, &scenario);
+    let printed = play_shown(rt, watch, scenario, asked, face)?;
+    let alloc = rt.alloc();
+    let mut notes = Vec::new(alloc);
+    if face == Face::Explained && !printed.unread {
+        put_notes(alloc, &mut notes, scenario, scenario_sort(), task.depth);
     }
-    Ok(play_printed(rt, watch, scenario.as_slice(), how)?)
+    Ok(noted(face, printed, &notes))
 }

@@ -1,4 +1,4 @@
--- The text that explains why a transaction is refused.
+-- The text that explains why a transaction is refused, in lines for people or as members of a JSON object for tools.
 use Rattle.std.specs.Prelude.{◌≡◌, ℕ, false, List, ◌++◌, slice_get, Option, Some, None, Ok, IsOk}
 use Rattle.contract.specs.declared.input.Input.{Input}
 use Rattle.contract.specs.declared.interval.Interval.{Interval}
@@ -13,42 +13,44 @@ use Rattle.trace.specs.declared.sequence.Left.{Left}
 use Rattle.explain_transactions.specs.declared.explanation.Explanation.{Explanation}
 use Rattle.explain_transactions.specs.declared.explanation.Explanation.TheVariants as why
 use Rattle.explain_transactions.specs.Explained.{Explains}
+use Rattle.marlowe_run.specs.Run.{within_127}
 use Rattle.marlowe_next.specs.declared.asked.Asked.{Asked}
 use Rattle.marlowe_next.specs.Answer.{IsAnswer}
-use Rattle.marlowe_explain.specs.Lines.{place_of, invalid_line, past_line, ambiguous_line, value_line, sum_line, unmatched_lines, useless_lines}
+use Rattle.json_members.specs.declared.spelling.Spelling.{Spelling}
+use Rattle.marlowe_explain.specs.Spelled.{is_for_tools, invalid_told, past_told, ambiguous_told, value_told, sum_told, unmatched_told, useless_told}
 
--- what can be done over an interval is asked, for people
-abbrev pub asks_over : Interval → Asked
-asks_over j = record { from = Some j.from; to = Some j.to; texts = false; json = false }
+-- what can be done over an interval is asked, for people or for tools
+abbrev pub asks_over : Spelling → Interval → Asked
+asks_over w j = record { from = Some j.from; to = Some j.to; readable = within_127 false; json = is_for_tools w }
 
 -- a text tells what the part of a contract takes over an interval that is left at the end of a path
-abbrev pub IsNext : Interval → ContractTree → Left → List ℕ → Type 0
-IsNext j whole left text =
-    IsAnswer (asks_over j) (Ok (record { whole = whole; path = left.path; there = standing left.state (contract_tree left.contract.now) })) text
+abbrev pub IsNext : Spelling → Interval → ContractTree → Left → List ℕ → Type 0
+IsNext w j whole left text =
+    IsAnswer (asks_over w j) (Ok (record { whole = whole; path = left.path; there = standing left.state (contract_tree left.contract.now) })) text
 
 -- a text tells of the input at an index that no case takes it, and what the contract takes where it comes
-pub record TellsUnmatched (j : Interval) (c : ContractTree) (xs : List Input) (n : ℕ) (left : Left) (text : List ℕ) : Type 0 where
+pub record TellsUnmatched (w : Spelling) (j : Interval) (c : ContractTree) (xs : List Input) (n : ℕ) (left : Left) (text : List ℕ) : Type 0 where
   pub input : Input
   pub brought : slice_get xs n ≡ Some input
   pub next : List ℕ
-  pub tells : IsNext j c left next
-  pub is : text ≡ unmatched_lines n input (place_of c left.path) next
+  pub tells : IsNext w j c left next
+  pub is : text ≡ unmatched_told w c n input left.path next
 
 -- a text tells that there is nothing to do, and what the contract takes
-pub record TellsUseless (j : Interval) (c : ContractTree) (left : Left) (text : List ℕ) : Type 0 where
+pub record TellsUseless (w : Spelling) (j : Interval) (c : ContractTree) (left : Left) (text : List ℕ) : Type 0 where
   pub next : List ℕ
-  pub tells : IsNext j c left next
-  pub is : text ≡ useless_lines (place_of c left.path) next
+  pub tells : IsNext w j c left next
+  pub is : text ≡ useless_told w c left.path next
 
 -- a text is that of an explanation
-abbrev pub Says : Interval → StateMaps → ContractTree → List Input → Explanation → List ℕ → Type 0
-Says i s c xs why.InvalidInterval text = text ≡ invalid_line i
-Says i s c xs (why.IntervalInPast least) text = text ≡ past_line i least
-Says i s c xs (why.Ambiguous place t) text = text ≡ ambiguous_line (trimmed i s) (place_of c place) t
-Says i s c xs (why.NoMatch n left) text = TellsUnmatched (trimmed i s) c xs n left text
-Says i s c xs (why.Useless left) text = TellsUseless (trimmed i s) c left text
-Says i s c xs (why.ValueLeaves place) text = text ≡ value_line (place_of c place)
-Says i s c xs (why.SumLeaves place p t) text = text ≡ sum_line (place_of c place) p.now t.now
+abbrev pub Says : Spelling → Interval → StateMaps → ContractTree → List Input → Explanation → List ℕ → Type 0
+Says w i s c xs why.InvalidInterval text = text ≡ invalid_told w i
+Says w i s c xs (why.IntervalInPast least) text = text ≡ past_told w i least
+Says w i s c xs (why.Ambiguous place t) text = text ≡ ambiguous_told w (trimmed i s) c place t
+Says w i s c xs (why.NoMatch n left) text = TellsUnmatched w (trimmed i s) c xs n left text
+Says w i s c xs (why.Useless left) text = TellsUseless w (trimmed i s) c left text
+Says w i s c xs (why.ValueLeaves place) text = text ≡ value_told w c place
+Says w i s c xs (why.SumLeaves place p t) text = text ≡ sum_told w c place p.now t.now
 
 -- ---- of a part of a contract
 
@@ -67,15 +69,15 @@ behind path (why.ValueLeaves place) = why.ValueLeaves (path ++ place)
 behind path (why.SumLeaves place p t) = why.SumLeaves (path ++ place) p t
 
 -- a text explains a transaction on the part of a contract at the end of a path: it is that of an explanation that is right of it
-pub record IsExplanation (whole : ContractTree) (path : List PathStep) (a : Standing) (t : Transaction) (text : List ℕ) : Type 0 where
+pub record IsExplanation (w : Spelling) (whole : ContractTree) (path : List PathStep) (a : Standing) (t : Transaction) (text : List ℕ) : Type 0 where
   pub explanation : Explanation
   pub explains : Explains t.interval a.state a.contract t.inputs explanation
-  pub says : Says t.interval a.state whole t.inputs (behind path explanation) text
+  pub says : Says w t.interval a.state whole t.inputs (behind path explanation) text
 
 abbrev pub IsAccepted : Standing → Transaction → Type 0
 IsAccepted a t = IsOk (answer_of (computed t.interval a.state a.contract t.inputs))
 
 -- there is a text exactly where the transaction is refused
-abbrev pub TellsIfRefused : ContractTree → List PathStep → Standing → Transaction → Option (List ℕ) → Type 0
-TellsIfRefused whole path a t None = IsAccepted a t
-TellsIfRefused whole path a t (Some text) = IsExplanation whole path a t text
+abbrev pub TellsIfRefused : Spelling → ContractTree → List PathStep → Standing → Transaction → Option (List ℕ) → Type 0
+TellsIfRefused w whole path a t None = IsAccepted a t
+TellsIfRefused w whole path a t (Some text) = IsExplanation w whole path a t text

@@ -1,19 +1,38 @@
-//! One line a fault.
+//! What is told of each fault.
 ghost use Rattle.std.specs.Prelude.{◌≡◌, IfOk, string_bytes};
 ghost use Rattle.contract.specs.Tree.{contract_tree};
-ghost use Rattle.marlowe_explain.specs.Lines.{ambiguous_head, ambiguous_line, invalid_line, past_line, place_of, sum_line, value_line};
+ghost use Rattle.marlowe_explain.specs.Lines as spec;
+ghost use Rattle.marlowe_explain.specs.Lines.{ambiguous_head, place_of};
+ghost use Rattle.marlowe_explain.specs.Spelled.{ambiguous_told, invalid_told, past_told, sum_told, value_told};
 
+use crate::members::{
+    ambiguous_members, invalid_members, past_members, sum_members, value_members,
+};
 use crate::words::line_at;
 use analysis_spec::PathStep;
 use collections::Memory;
 use contract::{Contract, Interval, Party, Token};
+use json_members::Spelling;
 use json_write_contracts::term_text;
 use places::token_text;
 use std::alloc::Global;
 
 /// The interval ends before it begins.
-pub(crate) fn invalid_text(alloc: Global, interval: Interval) -> Result<Vec<u8>, Memory>
-    ensures { IfOk result (λ text. text.items ≡ invalid_line interval) }
+pub(crate) fn invalid_told(
+    alloc: Global,
+    interval: Interval,
+    spelling: Spelling,
+) -> Result<Vec<u8>, Memory>
+    ensures { IfOk result (λ text. text.items ≡ invalid_told spelling interval) }
+{
+    match spelling {
+        Spelling::Lines => invalid_line(alloc, interval),
+        Spelling::Members => invalid_members(alloc),
+    }
+}
+
+fn invalid_line(alloc: Global, interval: Interval) -> Result<Vec<u8>, Memory>
+    ensures { IfOk result (λ text. text.items ≡ spec.invalid_line interval) }
 {
     let Interval { from, to } = interval;
     let line = format!(in alloc; "  the interval ends at {to}, before it begins at {from}\n")?;
@@ -21,8 +40,22 @@ pub(crate) fn invalid_text(alloc: Global, interval: Interval) -> Result<Vec<u8>,
 }
 
 /// The interval ends before the minimum time.
-pub(crate) fn past_text(alloc: Global, interval: Interval, least: i64) -> Result<Vec<u8>, Memory>
-    ensures { IfOk result (λ text. text.items ≡ past_line interval least) }
+pub(crate) fn past_told(
+    alloc: Global,
+    interval: Interval,
+    least: i64,
+    spelling: Spelling,
+) -> Result<Vec<u8>, Memory>
+    ensures { IfOk result (λ text. text.items ≡ past_told spelling interval least) }
+{
+    match spelling {
+        Spelling::Lines => past_line(alloc, interval, least),
+        Spelling::Members => past_members(alloc, least),
+    }
+}
+
+fn past_line(alloc: Global, interval: Interval, least: i64) -> Result<Vec<u8>, Memory>
+    ensures { IfOk result (λ text. text.items ≡ spec.past_line interval least) }
 {
     let to = interval.to;
     let line = format!(in alloc; "  the interval ends at {to}, before the minimum time {least}\n")?;
@@ -30,14 +63,31 @@ pub(crate) fn past_text(alloc: Global, interval: Interval, least: i64) -> Result
 }
 
 /// A timeout lies inside the interval, as it is fixed.
-pub(crate) fn ambiguous_text(
+pub(crate) fn ambiguous_told(
+    alloc: Global,
+    contract: &Contract,
+    place: &[PathStep],
+    timeout: i64,
+    fixed: Interval,
+    spelling: Spelling,
+) -> Result<Vec<u8>, Memory>
+    ensures { IfOk result (λ text. text.items
+        ≡ ambiguous_told spelling fixed (contract_tree contract.now) place.now timeout) }
+{
+    match spelling {
+        Spelling::Lines => ambiguous_line(alloc, contract, place, timeout, fixed),
+        Spelling::Members => ambiguous_members(alloc, contract, place, timeout),
+    }
+}
+
+fn ambiguous_line(
     alloc: Global,
     contract: &Contract,
     place: &[PathStep],
     timeout: i64,
     fixed: Interval,
 ) -> Result<Vec<u8>, Memory>
-    ensures { IfOk result (λ text. text.items ≡ ambiguous_line fixed (place_of (contract_tree contract.now) place.now) timeout) }
+    ensures { IfOk result (λ text. text.items ≡ spec.ambiguous_line fixed (place_of (contract_tree contract.now) place.now) timeout) }
 {
     let Interval { from, to } = fixed;
     let head = ambiguous_head(alloc, timeout)?;
@@ -52,12 +102,22 @@ fn ambiguous_head(alloc: Global, timeout: i64) -> Result<String, Memory>
 }
 
 /// A number leaves 128 bits.
-pub(crate) fn value_text(
+pub(crate) fn value_told(
     alloc: Global,
     contract: &Contract,
     place: &[PathStep],
+    spelling: Spelling,
 ) -> Result<Vec<u8>, Memory>
-    ensures { IfOk result (λ text. text.items ≡ value_line (place_of (contract_tree contract.now) place.now)) }
+    ensures { IfOk result (λ text. text.items ≡ value_told spelling (contract_tree contract.now) place.now) }
+{
+    match spelling {
+        Spelling::Lines => value_line(alloc, contract, place),
+        Spelling::Members => value_members(alloc, contract, place),
+    }
+}
+
+fn value_line(alloc: Global, contract: &Contract, place: &[PathStep]) -> Result<Vec<u8>, Memory>
+    ensures { IfOk result (λ text. text.items ≡ spec.value_line (place_of (contract_tree contract.now) place.now)) }
 {
     line_at(
         alloc,
@@ -69,14 +129,31 @@ pub(crate) fn value_text(
 }
 
 /// The sum in an account leaves 128 bits.
-pub(crate) fn sum_text(
+pub(crate) fn sum_told(
+    alloc: Global,
+    contract: &Contract,
+    place: &[PathStep],
+    owner: &Party,
+    token: &Token,
+    spelling: Spelling,
+) -> Result<Vec<u8>, Memory>
+    ensures { IfOk result (λ text. text.items
+        ≡ sum_told spelling (contract_tree contract.now) place.now owner.now token.now) }
+{
+    match spelling {
+        Spelling::Lines => sum_line(alloc, contract, place, owner, token),
+        Spelling::Members => sum_members(alloc, contract, place, owner, token),
+    }
+}
+
+fn sum_line(
     alloc: Global,
     contract: &Contract,
     place: &[PathStep],
     owner: &Party,
     token: &Token,
 ) -> Result<Vec<u8>, Memory>
-    ensures { IfOk result (λ text. text.items ≡ sum_line (place_of (contract_tree contract.now) place.now) owner.now token.now) }
+    ensures { IfOk result (λ text. text.items ≡ spec.sum_line (place_of (contract_tree contract.now) place.now) owner.now token.now) }
 {
     let token = token_text(alloc, token)?;
     let owner = term_text(alloc, owner)?;

@@ -1,14 +1,16 @@
-//! Why a transaction is refused, as lines for people: `explained` takes a second look and prints what `explain_transactions` finds.
-//! They stand behind the line of the refusal, each indented by two blanks, and what can be done next by four.
+//! Why a transaction is refused, as lines for people or as members of a JSON object for tools: `explained` takes a second look and
+//! writes what `explain_transactions` finds. The lines stand behind the line of the refusal, each indented by two blanks, and what can be
+//! done next by four.
 #![tactic(auto)]
 
 mod faults;
 mod indent;
 mod laws;
+mod members;
 mod paths;
 mod said;
 mod standing;
 mod words;
 
-pub use laws::worked_explanation_lines;
+pub use laws::{worked_explanation_lines, worked_explanation_members};
 pub use said::{explained, explained_behind};

@@ -1,33 +1,35 @@
-//! Explanations as lines.
+//! Explanations as they are written.
 ghost use Rattle.std.specs.Prelude.{◌≡◌, [], IfOk, option_map};
 ghost use Rattle.contract.specs.Tree.{contract_tree};
 ghost use Rattle.semantics.specs.Transaction.{trimmed};
 ghost use Rattle.semantics.specs.Walk.{standing};
 ghost use Rattle.marlowe_explain.specs.Explained.{Says, TellsIfRefused, TellsUnmatched, TellsUseless, behind};
 
-use crate::faults::{ambiguous_text, invalid_text, past_text, sum_text, value_text};
+use crate::faults::{ambiguous_told, invalid_told, past_told, sum_told, value_told};
 use crate::paths::behind;
-use crate::standing::{next_text, unmatched_text, useless_text};
+use crate::standing::{next_text, unmatched_told, useless_told};
 use analysis_spec::PathStep;
 use collections::Memory;
 use contract::{Contract, Input, Interval, State, Transaction};
 use explain_transactions::{Explanation, explain};
+use json_members::Spelling;
 use marlowe_run::beside_dropped;
 use std::alloc::{AllocError, Global};
 use trace::Left;
 
-/// Why a transaction on a contract and a state is refused, as lines for people: what the first fault is and where. Each ends with a
-/// line feed, and begins with two blanks. None where the transaction is accepted.
+/// Why a transaction on a contract and a state is refused: what the first fault is and where, as lines for people or members for
+/// tools. None where the transaction is accepted.
 pub fn explained(
     alloc: Global,
     contract: &Contract,
     state: &State,
     transaction: &Transaction,
+    spelling: Spelling,
 ) -> Result<Option<Vec<u8>>, Memory>
-    ensures { IfOk result (λ found. TellsIfRefused (contract_tree contract.now) []
+    ensures { IfOk result (λ found. TellsIfRefused spelling (contract_tree contract.now) []
         (standing state.now (contract_tree contract.now)) transaction.now (option_map (λ text. text.items) found)) }
 {
-    told(alloc, contract, &[], contract, state, transaction)
+    told(alloc, contract, &[], contract, state, transaction, spelling)
 }
 
 /// The same of a transaction that comes behind others: it is refused on what they leave of a whole contract. Places are those of the whole
@@ -37,12 +39,21 @@ pub fn explained_behind(
     whole: &Contract,
     left: &Left<'_>,
     transaction: &Transaction,
+    spelling: Spelling,
 ) -> Result<Option<Vec<u8>>, Memory>
-    ensures { IfOk result (λ found. TellsIfRefused (contract_tree whole.now) left.now.path
+    ensures { IfOk result (λ found. TellsIfRefused spelling (contract_tree whole.now) left.now.path
         (standing left.now.state (contract_tree left.now.contract.now)) transaction.now (option_map (λ text. text.items) found)) }
 {
     let path = left.path.as_slice();
-    told(alloc, whole, path, left.contract, &left.state, transaction)
+    told(
+        alloc,
+        whole,
+        path,
+        left.contract,
+        &left.state,
+        transaction,
+        spelling,
+    )
 }
 
 // Of the part of a contract at the end of a path.
@@ -53,15 +64,25 @@ fn told(
     contract: &Contract,
     state: &State,
     transaction: &Transaction,
+    spelling: Spelling,
 ) -> Result<Option<Vec<u8>>, Memory>
-    ensures { IfOk result (λ found. TellsIfRefused (contract_tree whole.now) path.now
+    ensures { IfOk result (λ found. TellsIfRefused spelling (contract_tree whole.now) path.now
         (standing state.now (contract_tree contract.now)) transaction.now (option_map (λ text. text.items) found)) }
 {
     let interval = transaction.interval;
     let inputs = transaction.inputs.as_slice();
     match explain(alloc, contract, state, interval, inputs) {
         Ok(Some(explanation)) => {
-            let text = said_behind(alloc, whole, path, state, interval, inputs, explanation)?;
+            let text = said_behind(
+                alloc,
+                whole,
+                path,
+                state,
+                interval,
+                inputs,
+                explanation,
+                spelling,
+            )?;
             Ok(Some(text))
         }
         Ok(None) => Ok(None),
@@ -69,7 +90,7 @@ fn told(
     }
 }
 
-// The lines of an explanation of the part at the end of a path.
+// The text of an explanation of the part at the end of a path.
 fn said_behind(
     alloc: Global,
     whole: &Contract,
@@ -78,12 +99,13 @@ fn said_behind(
     interval: Interval,
     inputs: &[Input],
     explanation: Explanation<'_>,
+    spelling: Spelling,
 ) -> Result<Vec<u8>, Memory>
-    ensures { IfOk result (λ text. Says interval state.now (contract_tree whole.now) inputs.now
+    ensures { IfOk result (λ text. Says spelling interval state.now (contract_tree whole.now) inputs.now
         (behind path.now explanation.entry) text.items) }
 {
     let there = behind(alloc, path, explanation)?;
-    let said = said(alloc, whole, state, interval, inputs, &there);
+    let said = said(alloc, whole, state, interval, inputs, &there, spelling);
     beside_dropped(there, said)
 }
 
@@ -97,7 +119,7 @@ fn fixed(interval: Interval, state: &State) -> Interval
     }
 }
 
-// The lines of an explanation.
+// The text of an explanation.
 fn said(
     alloc: Global,
     contract: &Contract,
@@ -105,24 +127,35 @@ fn said(
     interval: Interval,
     inputs: &[Input],
     explanation: &Explanation<'_>,
+    spelling: Spelling,
 ) -> Result<Vec<u8>, Memory>
-    ensures { IfOk result (λ text. Says interval state.now (contract_tree contract.now) inputs.now explanation.now text.items) }
+    ensures { IfOk result (λ text. Says spelling interval state.now (contract_tree contract.now) inputs.now explanation.now text.items) }
 {
     let fixed = fixed(interval, state);
     match explanation {
-        Explanation::InvalidInterval => invalid_text(alloc, interval),
-        Explanation::IntervalInPast(least) => past_text(alloc, interval, *least),
-        Explanation::Ambiguous(place, timeout) => {
-            ambiguous_text(alloc, contract, place.as_slice(), *timeout, fixed)
-        }
-        Explanation::ValueLeaves(place) => value_text(alloc, contract, place.as_slice()),
-        Explanation::SumLeaves(place, owner, token) => {
-            sum_text(alloc, contract, place.as_slice(), owner, token)
-        }
-        Explanation::NoMatch(index, left) => unmatched(
-            alloc, contract, fixed, inputs, *index, left,
+        Explanation::InvalidInterval => invalid_told(alloc, interval, spelling),
+        Explanation::IntervalInPast(least) => past_told(alloc, interval, *least, spelling),
+        Explanation::Ambiguous(place, timeout) => ambiguous_told(
+            alloc,
+            contract,
+            place.as_slice(),
+            *timeout,
+            fixed,
+            spelling,
         ),
-        Explanation::Useless(left) => useless(alloc, contract, fixed, left),
+        Explanation::ValueLeaves(place) => value_told(alloc, contract, place.as_slice(), spelling),
+        Explanation::SumLeaves(place, owner, token) => sum_told(
+            alloc,
+            contract,
+            place.as_slice(),
+            owner,
+            token,
+            spelling,
+        ),
+        Explanation::NoMatch(index, left) => unmatched(
+            alloc, contract, fixed, inputs, *index, left, spelling,
+        ),
+        Explanation::Useless(left) => useless(alloc, contract, fixed, left, spelling),
     }
 }
 
@@ -134,13 +167,22 @@ fn unmatched(
     inputs: &[Input],
     index: usize,
     left: &Left<'_>,
+    spelling: Spelling,
 ) -> Result<Vec<u8>, Memory>
-    ensures { IfOk result (λ text. TellsUnmatched fixed (contract_tree contract.now) inputs.now index left.now text.items) }
+    ensures { IfOk result (λ text. TellsUnmatched spelling fixed (contract_tree contract.now) inputs.now index left.now text.items) }
 {
     match inputs.get(index) {
         Some(input) => {
-            let next = next_text(alloc, contract, left, fixed)?;
-            unmatched_text(alloc, contract, index, input, left.path.as_slice(), &next)
+            let next = next_text(alloc, contract, left, fixed, spelling)?;
+            unmatched_told(
+                alloc,
+                contract,
+                index,
+                input,
+                left.path.as_slice(),
+                &next,
+                spelling,
+            )
         }
         None => Err(AllocError),
     }
@@ -152,9 +194,10 @@ fn useless(
     contract: &Contract,
     fixed: Interval,
     left: &Left<'_>,
+    spelling: Spelling,
 ) -> Result<Vec<u8>, Memory>
-    ensures { IfOk result (λ text. TellsUseless fixed (contract_tree contract.now) left.now text.items) }
+    ensures { IfOk result (λ text. TellsUseless spelling fixed (contract_tree contract.now) left.now text.items) }
 {
-    let next = next_text(alloc, contract, left, fixed)?;
-    useless_text(alloc, contract, left.path.as_slice(), &next)
+    let next = next_text(alloc, contract, left, fixed, spelling)?;
+    useless_told(alloc, contract, left.path.as_slice(), &next, spelling)
 }

@@ -10,7 +10,7 @@ use Rattle.contract.specs.declared.transaction.Transaction.{Transaction}
 use Rattle.contract.specs.declared.tree.Contract.{Contract}
 use Rattle.contract.specs.Tree.{ContractTree, contract_tree}
 use Rattle.states.specs.States.{StateMaps}
-use Rattle.json_read_names.specs.ReadsText.{of_text}
+use Rattle.json_read_names.specs.ReadsText.{of_text_within}
 use Rattle.json_read_contracts.specs.ReadsContract.{contract}
 use Rattle.json_read_transactions.specs.ReadsTransactions.{transactions_of}
 use Rattle.semantics.specs.Walk.{Standing, standing, answer_of}
@@ -55,10 +55,10 @@ abbrev pub reached_with : ContractTree → StateMaps → List (List ℕ) → Res
 reached_with c s after = told_as texts_fault (transactions_of after) >>= λ ts. reached_by c s ts
 
 abbrev pub reached_from : Asked → ContractTree → Option (List ℕ) → List (List ℕ) → Result Reached TraceFault
-reached_from q c start after = read_as (λ f. trace.Run (state_fault f)) (start_of q.texts start) >>= λ s. reached_with c s after
+reached_from q c start after = read_as (λ f. trace.Run (state_fault f)) (start_of q.readable.text_numbers start) >>= λ s. reached_with c s after
 
 abbrev pub reached : Asked → List ℕ → Option (List ℕ) → List (List ℕ) → Result Reached TraceFault
-reached q text start after = read_as (λ f. trace.Run (contract_fault f)) (of_text contract text) >>= λ given. reached_from q (contract_tree given) start after
+reached q text start after = read_as (λ f. trace.Run (contract_fault f)) (of_text_within q.readable.depth contract text) >>= λ given. reached_from q (contract_tree given) start after
 
 -- .. from texts as they are given
 abbrev pub reached_given : Asked → List ℕ → Option (Bor (List ℕ)) → List (Vec ℕ Global) → Result Reached TraceFault

@@ -10,6 +10,7 @@ use Rattle.analysis_spec.specs.declared.path.PathStep.TheVariants.{Case}
 use Rattle.marlowe_refusals.specs.declared.trace_fault.TraceFault.TheVariants.{Refused}
 use Rattle.trace.specs.Rows.{first, third, notifies}
 use Rattle.next_lines.specs.Applicable.{notifies as notified}
+use Rattle.marlowe_run.specs.Run.{within_127}
 use Rattle.marlowe_next.specs.declared.asked.Asked.{Asked}
 use Rattle.marlowe_next.specs.Question.{reached_by, interval_of}
 use Rattle.marlowe_next.specs.Applicable.{refusal, applicable_from}
@@ -17,7 +18,7 @@ use Rattle.marlowe_next.specs.Applicable.{refusal, applicable_from}
 -- ---- the question
 
 abbrev pub asks : Option ℤ → Option ℤ → Asked
-asks from to = record { from = from; to = to; texts = false; json = false }
+asks from to = record { from = from; to = to; readable = within_127 false; json = false }
 
 -- at the minimum time 6: without times it is 6 alone, `from` alone is one moment, and `to` alone begins at 6
 abbrev pub TimesFollowTheMinimum : Type 0

@@ -10,7 +10,7 @@ ghost use Rattle.marlowe_next.specs.AnswerSupport.{Answers};
 use crate::asked::{Asked, interval_of};
 use crate::told_here::settled_text;
 use contract::{Contract, SemFault, State, Transaction};
-use contract_json::read_contract;
+use contract_json::read_contract_within;
 use json_read_transactions::read_transactions;
 use marlowe_refusals::{RunFault, TraceFault};
 use marlowe_run::{beside_dropped, read_start};
@@ -35,6 +35,22 @@ pub fn next(
         (answered asked (reached_given asked contract.now state.entry after.now)) }
 {
     from_contract(alloc, contract, state, after, asked)
+}
+
+/// The same of a contract and a state once all is read: what `next` prints behind these transactions.
+pub fn next_after(
+    alloc: Global,
+    whole: &Contract,
+    start: &State,
+    transactions: &[Transaction],
+    asked: Asked,
+) -> Result<Vec<u8>, TraceFault>
+    ensures text { IfOk result (λ text.
+        IsAnswer asked (reached_by (contract_tree whole.now) start.now transactions.now) text.items) }
+    ensures answer { AsideBy (TraceFault.Run RunFault.Memory) (λ _. tt) result
+        (answered asked (reached_by (contract_tree whole.now) start.now transactions.now)) }
+{
+    from_transactions(alloc, whole, start, transactions, asked)
 }
 
 /// The same of a part of a contract that is left at the end of a path: what `next` prints once transactions have led there. The fault
@@ -62,7 +78,7 @@ fn from_contract(
 ) -> Result<Vec<u8>, TraceFault>
     ensures { Answers asked (reached_given asked contract.now state.entry after.now) result }
 {
-    match read_contract(alloc, contract) {
+    match read_contract_within(alloc, contract, asked.readable.depth) {
         Ok(whole) => {
             let text = from_state(alloc, &whole, state, after, asked);
             beside_dropped(whole, text)
@@ -81,7 +97,7 @@ fn from_state(
 ) -> Result<Vec<u8>, TraceFault>
     ensures { Answers asked (reached_from asked (contract_tree whole.now) (text_given state.entry) (texts_given after.now)) result }
 {
-    match read_start(alloc, state, asked.texts) {
+    match read_start(alloc, state, asked.readable.text_numbers) {
         Ok(start) => {
             let text = from_texts(alloc, whole, &start, after, asked);
             beside_dropped(start, text)

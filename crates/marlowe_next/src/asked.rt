@@ -4,6 +4,7 @@ ghost use Rattle.semantics.specs.Transaction.{trimmed};
 ghost use Rattle.marlowe_next.specs.Question.{interval_of};
 
 use contract::{Interval, State};
+use marlowe_run::Readable;
 
 /// What is asked of a contract. Times are POSIX milliseconds.
 #[derive(Clone, Copy, Debug)]
@@ -12,8 +13,8 @@ pub struct Asked {
     pub from: Option<i64>,
     /// When it may happen at the latest: without it, at the first moment alone.
     pub to: Option<i64>,
-    /// Whether a number of the state may also be a text of its digits, as `read_state_with_texts` has it.
-    pub texts: bool,
+    /// How deep the contract may nest, and whether a number of the state may be a text of its digits.
+    pub readable: Readable,
     /// Whether the answer is JSON for tools, instead of lines for people.
     pub json: bool,
 }

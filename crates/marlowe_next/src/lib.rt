@@ -8,6 +8,6 @@ mod cases;
 mod laws;
 mod told_here;
 
-pub use answer::{next, next_there};
+pub use answer::{next, next_after, next_there};
 pub use asked::Asked;
 pub use laws::worked_answers;

@@ -1,3 +1,4 @@
 pub mod Crossing
 mod NotesLemmas
+mod StrictLemmas
 mod PlayingLemmas

@@ -21,7 +21,7 @@ use Rattle.parties.specs.declared.left_out.LeftOut.{LeftOut}
 use Rattle.parties.specs.Plays.{PlayedPlan, AreOfPlan, IsLeftOut, added}
 use Rattle.play_lines.specs.PlayLines.{ThreadLine}
 use Rattle.play_setup.specs.SetUp.{Begun, Begins, IsSetUp, object_of, course, currencies, key_output, plan_on, start_output}
-use Rattle.marlowe_play.specs.Played.{AreLeftOut, IsThreadLine, IsTold, PlaysPlan, TellsAPlay, IsPlayed}
+use Rattle.marlowe_play.specs.Played.{AreLeftOut, IsThreadLine, IsTold, PlaysPlan, TellsAPlay, IsAnswered, Wanted, well_by}
 use Rattle.marlowe_play.specs.PlayedSupport.{AreLines, HasPlayed, HasEnded, WerePlayed}
 
 -- ---- answers
@@ -202,8 +202,8 @@ how_many_starts s outputs seats left w = starts_length s w.begun outputs w.first
 -- ---- what is printed
 
 -- the lines of what all seats were told
-pub told_of : (s : Scenario) (explain : Bool) (c : Course) (objects : List Published) (outputs : List OutputRef) (seats : List SeatRecord) (left : List (List LeftOut)) (threads : List ThreadLine) (text : List ℕ) → objects ≡ map object_of s.contracts → c.genesis ≡ map key_output s.genesis → c.first_tick ≡ s.tick → IsLegal c → AreHeard c.entries seats → length c.entries ≡ answered seats → WerePlayed s outputs seats left → AreLines c objects s.threads outputs threads → IsTold explain s c outputs left threads text → TellsAPlay s explain text
-told_of s explain c objects outputs seats left threads text are first at legal heard whole w lines is =
+pub told_of : (s : Scenario) (a : Wanted) (c : Course) (objects : List Published) (outputs : List OutputRef) (seats : List SeatRecord) (left : List (List LeftOut)) (threads : List ThreadLine) (text : List ℕ) (well : Bool) → objects ≡ map object_of s.contracts → c.genesis ≡ map key_output s.genesis → c.first_tick ≡ s.tick → IsLegal c → AreHeard c.entries seats → length c.entries ≡ answered seats → WerePlayed s outputs seats left → AreLines c objects s.threads outputs threads → IsTold a.face s c outputs left threads text → well ≡ well_by a s left c.entries threads → TellsAPlay s a text well
+told_of s a c objects outputs seats left threads text well are first at legal heard whole w lines is so =
     let same : c ≡ course (map key_output s.genesis) s.tick c.entries = ap₂ (λ (os : List Output) (t : ℤ). course os t c.entries) first at in
     record {
       entries = c.entries;
@@ -219,9 +219,10 @@ told_of s explain c objects outputs seats left threads text are first at legal h
       left_out = w.left_out;
       threads = threads;
       each = subst (λ (k : Course). AllZip (λ (b : Begun) (l : ThreadLine). IsThreadLine k b.thread.name b.object (start_output b) l) w.begun threads) same (lines_played s c objects outputs seats left threads w are lines);
-      lines = subst (λ (k : Course). IsTold explain s k (map start_output w.begun) left threads text) same (subst (λ (os : List OutputRef). IsTold explain s c os left threads text) w.outputs_are is);
+      lines = subst (λ (k : Course). IsTold a.face s k (map start_output w.begun) left threads text) same (subst (λ (os : List OutputRef). IsTold a.face s c os left threads text) w.outputs_are is);
+      well_is = so;
     }
 
 -- of a text that is a scenario
-pub was_told : (reading : Reading Scenario) (s : Scenario) (explain : Bool) (text : List ℕ) → reading ≡ Ok s → TellsAPlay s explain text → IsPlayed reading explain text
-was_told reading s explain text is told = subst (λ (r : Reading Scenario). IsPlayed r explain text) (sym is) told
+pub was_told : (reading : Reading Scenario) (s : Scenario) (a : Wanted) (text : List ℕ) (well : Bool) → reading ≡ Ok s → TellsAPlay s a text well → IsAnswered reading a text well
+was_told reading s a text well is told = subst (λ (r : Reading Scenario). IsAnswered r a text well) (sym is) told

@@ -1,4 +1,5 @@
 pub mod Faults
 pub mod Notes
+pub mod Strict
 pub mod Played
 pub mod PlayedSupport

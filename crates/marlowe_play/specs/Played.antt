@@ -1,5 +1,5 @@
 -- What is printed of a play that came to its end.
-use Rattle.std.specs.Prelude.{◌≡◌, ℕ, ◌-◌, Bool, true, false, ◌&&◌, List, [], ◌∷◌, ◌++◌, map, length, slice_get, Option, Some, None, Ok, Err}
+use Rattle.std.specs.Prelude.{◌≡◌, ℕ, ◌-◌, Bool, true, false, ◌&&◌, if◌then◌else◌, List, [], ◌∷◌, ◌++◌, map, length, slice_get, Option, Some, None, Ok, Err}
 use Rattle.std.specs.List.{All, AllZip}
 use Rattle.json_read_names.specs.Parts.{Reading}
 use Rattle.plans.specs.declared.plan.Plan.{Plan}
@@ -17,12 +17,16 @@ use Rattle.hub.specs.Seats.{SeatRecord, AreHeard, answered}
 use Rattle.parties.specs.declared.left_out.LeftOut.{LeftOut}
 use Rattle.parties.specs.Plays.{PlayedPlan, AreOfPlan, IsLeftOut}
 use Rattle.play_lines.specs.PlayLines.{ThreadLine, played_lines}
-use Rattle.play_notes.specs.Notes.{noted_lines}
 use Rattle.play_holdings.specs.declared.holding.Holding.{Holding}
-use Rattle.play_holdings.specs.HoldingLines.{holding_lines}
 use Rattle.chain_holdings.specs.After.{AreHoldings, AreWhatThereWas}
 use Rattle.play_setup.specs.SetUp.{Begun, IsSetUp, course, currencies, key_output, plan_on, start_output}
-use Rattle.marlowe_play.specs.Notes.{notes_with}
+use Rattle.marlowe_play.specs.Notes.{all_told}
+use Rattle.marlowe_play.specs.Strict.{went_well}
+use Rattle.step_notes.specs.declared.spelling.Spelling.{Spelling}
+use Rattle.step_notes.specs.declared.spelling.Spelling.TheVariants.{Lines}
+use Rattle.step_notes.specs.declared.spelling.Spelling.TheVariants as spelled
+use Rattle.marlowe_play.specs.declared.asked.Face.{Face}
+use Rattle.marlowe_play.specs.declared.asked.Face.TheVariants.{Plain, Explained, Objects}
 
 -- a seat's answers are of a plan, whose threads and contracts are named as the setup made them
 abbrev pub PlaysPlan : ScenarioRead → List Begun → Plan ℕ ℕ → SeatRecord → Type 0
@@ -45,23 +49,38 @@ AreLeftOut named [] [] [] = Unit {0}
 AreLeftOut named (plan ∷ plans) (seat ∷ seats) (left ∷ lefts) = All (IsLeftOut (named plan) seat.answers) left × AreLeftOut named plans seats lefts
 AreLeftOut named _ _ _ = ⊥
 
--- a text that is explained: behind its entries stands why something was refused and what hindered intents that were left out; and behind its lines who holds
--- what after the history, which together, token by token, is what the ledger began with
-pub record IsExplained (s : ScenarioRead) (c : Course) (starts : List OutputRef) (left : List (List LeftOut)) (threads : List ThreadLine) (text : List ℕ) : Type 0 where
+-- a text that tells all: behind its entries stands what steps did, why something was refused and what hindered intents that were left out; behind its lines
+-- how each intent ended, and who holds what after the history, which together, token by token, is what the ledger began with. Lines for people and objects
+-- for tools tell the same
+pub record TellsAll (spelling : Spelling) (s : ScenarioRead) (c : Course) (starts : List OutputRef) (left : List (List LeftOut)) (threads : List ThreadLine) (text : List ℕ) : Type 0 where
   pub holdings : List Holding
   pub after : AreHoldings c starts holdings
   pub together : AreWhatThereWas c holdings
-  pub text_is : text ≡ noted_lines (notes_with s left c.entries) c.entries threads ++ holding_lines s.threads holdings
+  pub text_is : text ≡ all_told spelling s left c.entries threads holdings
 
--- the lines alone, or explained
-abbrev pub IsTold : Bool → ScenarioRead → Course → List OutputRef → List (List LeftOut) → List ThreadLine → List ℕ → Type 0
-IsTold false s c starts left threads text = text ≡ played_lines c.entries threads
-IsTold true s c starts left threads text = IsExplained s c starts left threads text
+-- the lines alone, or all
+abbrev pub IsTold : Face → ScenarioRead → Course → List OutputRef → List (List LeftOut) → List ThreadLine → List ℕ → Type 0
+IsTold Plain s c starts left threads text = text ≡ played_lines c.entries threads
+IsTold Explained s c starts left threads text = TellsAll Lines s c starts left threads text
+IsTold Objects s c starts left threads text = TellsAll spelled.Objects s c starts left threads text
 
--- A PLAY TOLD: the text is the lines of a legal history over the scenario's first outputs and its tick, explained if it is to be. Its entries are those
--- that its seats were told of and no others: the first seat set the scenario up, and behind it each plan has one that made its calls. The threads are
--- those that were started, in order
-pub record TellsAPlay (s : ScenarioRead) (explain : Bool) (text : List ℕ) : Type 0 where
+-- what is asked of a play: what is told of it, and whether it went well, where the threads with these names may stay open
+pub record Wanted : Type 0 where
+  pub face : Face
+  pub strict : Bool
+  pub kept : List (List ℕ)
+
+abbrev pub wanted : Face → Bool → List (List ℕ) → Wanted
+wanted face strict kept = record { face = face; strict = strict; kept = kept }
+
+-- whether it went well, if that was asked
+abbrev pub well_by : Wanted → ScenarioRead → List (List LeftOut) → List Entry → List ThreadLine → Bool
+well_by w s left entries threads = if w.strict then went_well w.kept s left entries threads else true
+
+-- A PLAY TOLD: the text is the lines of a legal history over the scenario's first outputs and its tick, told as it is to be; and whether it went well is
+-- told of that history. Its entries are those that its seats were told of and no others: the first seat set the scenario up, and behind it each plan has
+-- one that made its calls. The threads are those that were started, in order
+pub record TellsAPlay (s : ScenarioRead) (wanted : Wanted) (text : List ℕ) (well : Bool) : Type 0 where
   pub entries : List Entry
   pub legal : IsLegal (course (map key_output s.genesis) s.tick entries)
   pub first : SeatRecord
@@ -76,9 +95,17 @@ pub record TellsAPlay (s : ScenarioRead) (explain : Bool) (text : List ℕ) : Ty
   pub threads : List ThreadLine
   pub each : AllZip (λ (b : Begun) (line : ThreadLine).
       IsThreadLine (course (map key_output s.genesis) s.tick entries) b.thread.name b.object (start_output b) line) begun threads
-  pub lines : IsTold explain s (course (map key_output s.genesis) s.tick entries) (map start_output begun) left threads text
+  pub lines : IsTold wanted.face s (course (map key_output s.genesis) s.tick entries) (map start_output begun) left threads text
+  pub well_is : well ≡ well_by wanted s left entries threads
 
--- what is printed of a scenario tells a play of it; of a text that is none, nothing is
+-- what is answered of a scenario tells a play of it; of a text that is none, nothing is
+abbrev pub IsAnswered : Reading ScenarioRead → Wanted → List ℕ → Bool → Type 0
+IsAnswered (Ok s) wanted text well = TellsAPlay s wanted text well
+IsAnswered (Err fault) wanted text well = ⊥
+
+abbrev pub face_of : Bool → Face
+face_of explain = if explain then Explained else Plain
+
+-- .. where it isn't asked whether it went well
 abbrev pub IsPlayed : Reading ScenarioRead → Bool → List ℕ → Type 0
-IsPlayed (Ok s) explain text = TellsAPlay s explain text
-IsPlayed (Err fault) explain text = ⊥
+IsPlayed reading explain text = (well : Bool) × IsAnswered reading (wanted (face_of explain) false []) text well

@@ -4,68 +4,132 @@ ghost use Rattle.std.specs.List.{All};
 ghost use Rattle.plans.specs.declared.scenario.NamedThread.{NamedThread};
 ghost use Rattle.play_lines.specs.PlayLines.{ThreadLine as Told};
 ghost use Rattle.play_setup.specs.SetUp.{key_output};
-ghost use Rattle.marlowe_play.specs.Played.{IsThreadLine, IsExplained, IsTold, leaves_close};
+ghost use Rattle.marlowe_play.specs.Played.{IsThreadLine, IsTold, TellsAll, leaves_close, wanted, well_by};
 ghost use Rattle.marlowe_play.specs.PlayedSupport.{AreLines};
 
-use crate::notes::notes_with;
+use crate::all::all_told;
+use crate::asked::{Asked, Face, Played};
+use crate::strict::went_well;
 use chain_holdings::holdings_after;
 use collections::{Memory, Text};
 use eutxo_types::OutputRef;
 use hub::{Chain, StepRecord};
 use parties::LeftOut;
 use plans::{NamedThread, Scenario};
-use play_holdings::holding_lines;
 use play_lines::{ThreadLine, played_lines};
-use play_notes::noted_lines;
 use play_setup::{Stage, key_outputs};
 use roles::Published;
 use std::alloc::Global;
+use step_notes::Spelling;
 
-// The lines with what is told behind entries, and behind them who holds what.
-fn explained_text(
+// All that is told of a play, and who holds what.
+fn told_text(
     alloc: Global,
     chain: &Chain,
     scenario: &Scenario,
     starts: &[OutputRef],
     left: &[Vec<LeftOut>],
     lines: &[ThreadLine<'_>],
+    spelling: Spelling,
 ) -> Result<Vec<u8>, Memory>
     requires genesis { chain.now.genesis ≡ map key_output scenario.now.genesis }
     requires tick { chain.now.first_tick ≡ scenario.now.tick }
-    ensures { IfOk result (λ text. IsExplained scenario.now chain.now starts.now (map (λ l. l.items) left.now) lines.now text.items) }
+    ensures { IfOk result (λ text. TellsAll spelling scenario.now chain.now starts.now (map (λ l. l.items) left.now) lines.now text.items) }
 {
     let first = key_outputs(alloc, scenario.genesis.as_slice())?;
     let holdings = holdings_after(alloc, chain, &first, scenario.tick, starts)?;
-    let ending = holding_lines(alloc, scenario.threads.as_slice(), &holdings)?;
-    let notes = notes_with(alloc, scenario, left, chain.entries())?;
-    let mut text = noted_lines(alloc, &notes, chain.entries(), lines)?;
-    text.extend_from_slice(ending.as_bytes())?;
-    Ok(text)
+    all_told(
+        alloc,
+        spelling,
+        scenario,
+        left,
+        chain.entries(),
+        lines,
+        &holdings,
+    )
 }
 
-// The whole text, explained if it is to be. Each line ends in a line feed.
+// What is printed, as it is to be.
+fn text_of(
+    alloc: Global,
+    chain: &Chain,
+    scenario: &Scenario,
+    starts: &[OutputRef],
+    left: &[Vec<LeftOut>],
+    lines: &[ThreadLine<'_>],
+    face: Face,
+) -> Result<Vec<u8>, Memory>
+    requires genesis { chain.now.genesis ≡ map key_output scenario.now.genesis }
+    requires tick { chain.now.first_tick ≡ scenario.now.tick }
+    ensures { IfOk result (λ text.
+        IsTold face scenario.now chain.now starts.now (map (λ l. l.items) left.now) lines.now text.items) }
+{
+    match face {
+        Face::Plain => played_lines(alloc, chain.entries(), lines),
+        Face::Explained => told_text(alloc, chain, scenario, starts, left, lines, Spelling::Lines),
+        Face::Objects => told_text(
+            alloc,
+            chain,
+            scenario,
+            starts,
+            left,
+            lines,
+            Spelling::Objects,
+        ),
+    }
+}
+
+// Whether all went well, if that was asked.
+fn well_by(
+    alloc: Global,
+    chain: &Chain,
+    scenario: &Scenario,
+    left: &[Vec<LeftOut>],
+    lines: &[ThreadLine<'_>],
+    asked: Asked<'_>,
+) -> Result<bool, Memory>
+    ensures { IfOk result (λ well. well ≡ well_by (wanted asked.face asked.strict (map (λ s. s.now) asked.kept_open.now))
+        scenario.now (map (λ l. l.items) left.now) chain.now.entries lines.now) }
+{
+    if asked.strict {
+        went_well(
+            alloc,
+            scenario,
+            left,
+            chain.entries(),
+            lines,
+            asked.kept_open,
+        )
+    } else {
+        Ok(true)
+    }
+}
+
+// The whole text, as it is to be, and whether all went well, if that was asked. Each line ends in a line feed.
 pub(crate) fn played_text(
     alloc: Global,
     chain: &Chain,
     scenario: &Scenario,
     stage: &Stage,
     left: &[Vec<LeftOut>],
-    explain: bool,
-) -> Result<Vec<u8>, Memory>
+    asked: Asked<'_>,
+) -> Result<Played, Memory>
     requires contracts { All (λ (t : NamedThread). t.contract < length stage.now.contracts.items) scenario.now.threads }
     requires starts { length stage.now.starts.items ≡ length scenario.now.threads }
     requires genesis { chain.now.genesis ≡ map key_output scenario.now.genesis }
     requires tick { chain.now.first_tick ≡ scenario.now.tick }
-    ensures { IfOk result (λ text. (lines : List Told)
-        × IsTold explain scenario.now chain.now stage.now.starts.items (map (λ l. l.items) left.now) lines text.items
+    ensures { IfOk result (λ played. (lines : List Told)
+        × IsTold asked.face scenario.now chain.now stage.now.starts.items (map (λ l. l.items) left.now) lines played.text.items
+        × (played.well ≡ well_by (wanted asked.face asked.strict (map (λ s. s.now) asked.kept_open.now))
+        scenario.now (map (λ l. l.items) left.now) chain.now.entries lines)
         × AreLines chain.now stage.now.contracts.items scenario.now.threads stage.now.starts.items lines) }
 {
     let threads = scenario.threads.as_slice();
     let lines = lines_of(alloc, chain, threads, &stage.contracts, &stage.starts)?;
-    if explain {
-        return explained_text(alloc, chain, scenario, &stage.starts, left, &lines);
-    }
-    played_lines(alloc, chain.entries(), &lines)
+    let starts = stage.starts.as_slice();
+    let text = text_of(alloc, chain, scenario, starts, left, &lines, asked.face)?;
+    let well = well_by(alloc, chain, scenario, left, &lines, asked)?;
+    Ok(Played { text, well })
 }
 
 // The lines of threads with these start outputs.

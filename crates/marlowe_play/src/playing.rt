@@ -1,19 +1,20 @@
 //! A scenario, from text to text.
 ghost use Rattle.std.specs.Prelude.{◌≡◌, ◌+◌, false, length, map, IfErr, IfOk};
 ghost use Rattle.hub.specs.Seats.{AreNumbered, answered};
-ghost use Rattle.json_read_names.specs.ReadsText.{of_text};
+ghost use Rattle.json_read_names.specs.ReadsText.{of_text, of_text_within};
 ghost use Rattle.json_read_scenarios.specs.Named.{NamesWhatItHas};
 ghost use Rattle.json_read_scenarios.specs.ReadsScenario as reads;
 ghost use Rattle.marlowe_play.specs.Faults.{IsOfText, IsRefused};
-ghost use Rattle.marlowe_play.specs.Played.{IsPlayed, TellsAPlay};
+ghost use Rattle.marlowe_play.specs.Played.{IsAnswered, IsPlayed, TellsAPlay, face_of, wanted};
 ghost use Rattle.marlowe_play.specs.PlayedSupport.{WerePlayed};
 ghost use Rattle.play_setup.specs.SetUp.{key_output, object_of};
 
+use crate::asked::{Asked, Face, Played};
 use crate::fault::PlayFault;
 use crate::lines::played_text;
 use crate::turns::{play_turns, seats_of, take_first, turns_of};
 use hub::{Hub, Opening, Seat, Session};
-use json_read_scenarios::read_scenario;
+use json_read_scenarios::{read_scenario, read_scenario_within};
 use parties::{LeftOut, NoWatch, Watch};
 use plans::Scenario;
 use play_setup::{Stage, first_chain, set_up};
@@ -27,8 +28,22 @@ use std::thread::Threads;
 pub struct How {
     /// The plans are played one after another, and else all at once.
     pub one: bool,
-    /// Behind entries stands why something was refused or wasn't built, and behind the lines who holds what at the end.
+    /// Behind entries stands what steps did and why something was refused or wasn't built, and behind the lines how intents ended and who
+    /// holds what.
     pub explain: bool,
+}
+
+impl How {
+    // What is told.
+    fn face(&self) -> Face
+        ensures { result ≡ face_of self.now.explain }
+    {
+        if self.explain {
+            Face::Explained
+        } else {
+            Face::Plain
+        }
+    }
 }
 
 /// Plays the scenario of a JSON text of at most 1,048,576 bytes, and gives the lines that tell what happened, each with a
@@ -56,10 +71,11 @@ pub fn play<R: Threads + Wait + Sync>(
     play_watched(rt, alloc, text, how, &NoWatch)
 }
 
-/// The same, while somebody is told how far it is. Where it is to `explain`, lines of four blanks and a text stand behind entries: why
-/// something was refused, and behind a look on which nothing was built, what hindered the intent. And lines behind all others say who
-/// holds what at the end, token by token: each address, each payout that nobody has claimed, and the contract of each thread.
-/// Together that is what the ledger began with.
+/// The same, while somebody is told how far it is. Where it is to `explain`, lines of four blanks and a text stand behind entries: what
+/// the steps did that it accepted, why something was refused, and behind a look on which nothing was built, what hindered the intent.
+/// Behind the number of entries each intent of each plan has a line that says how it ended. And lines behind all others say who holds what
+/// at the end, token by token: each address, each payout that nobody has claimed, and the contract of each thread. Together that is what
+/// the ledger began with.
 pub fn play_watched<R: Threads + Wait + Sync, W: Watch + Sync>(
     rt: &R,
     alloc: Global,
@@ -74,9 +90,53 @@ pub fn play_watched<R: Threads + Wait + Sync, W: Watch + Sync>(
         Ok(scenario) => scenario,
         Err(fault) => return Err(PlayFault::of_scenario(fault)),
     };
+    let asked = Asked {
+        one: how.one,
+        face: how.face(),
+        depth: 127,
+        strict: false,
+        kept_open: &[],
+    };
+    let played = play_scenario(rt, alloc, &scenario, asked, watch)?;
+    Ok(played.text)
+}
+
+/// The same with all that can be asked of a play: a scenario whose text nests no deeper than `depth`, where `play_watched` has 127; and
+/// whether all went well, if it is to be `strict`.
+pub fn play_asked<R: Threads + Wait + Sync, W: Watch + Sync>(
+    rt: &R,
+    alloc: Global,
+    text: &[u8],
+    asked: Asked<'_>,
+    watch: &W,
+) -> Result<Played, PlayFault>
+    ensures unread { IsRefused (of_text_within asked.depth reads.scenario text.now) result }
+    ensures played { IfOk result (λ p. IsAnswered (of_text_within asked.depth reads.scenario text.now)
+        (wanted asked.face asked.strict (map (λ s. s.now) asked.kept_open.now)) p.text.items p.well) }
+{
+    let scenario = match read_scenario_within(alloc, text, asked.depth) {
+        Ok(scenario) => scenario,
+        Err(fault) => return Err(PlayFault::of_scenario(fault)),
+    };
+    play_scenario(rt, alloc, &scenario, asked, watch)
+}
+
+// Plays a scenario that was read.
+fn play_scenario<R: Threads + Wait + Sync, W: Watch + Sync>(
+    rt: &R,
+    alloc: Global,
+    scenario: &Scenario,
+    asked: Asked<'_>,
+    watch: &W,
+) -> Result<Played, PlayFault>
+    requires names { NamesWhatItHas scenario.now }
+    ensures told { IfErr result (λ fault. IsOfText fault → ⊥) }
+    ensures played { IfOk result (λ p. TellsAPlay scenario.now
+        (wanted asked.face asked.strict (map (λ s. s.now) asked.kept_open.now)) p.text.items p.well) }
+{
     let chain = first_chain(alloc, scenario.genesis.as_slice(), scenario.tick)?;
     let opening = Opening::new(chain, scenario.plans.len() as u64 + 1);
-    play_on::<R, Brand, W>(rt, alloc, opening, &scenario, how, watch)
+    play_on::<R, Brand, W>(rt, alloc, opening, scenario, asked, watch)
 }
 
 // Plays a scenario on its ledger, which has begun.
@@ -85,22 +145,23 @@ fn play_on<R: Threads + Wait + Sync, J: Session + Send + Sync, W: Watch + Sync>(
     alloc: Global,
     opening: Opening,
     scenario: &Scenario,
-    how: How,
+    asked: Asked<'_>,
     watch: &W,
-) -> Result<Vec<u8>, PlayFault>
+) -> Result<Played, PlayFault>
     requires session { opening ≡ J.session }
     requires genesis { opening.genesis ≡ map key_output scenario.now.genesis }
     requires tick { opening.first_tick ≡ scenario.now.tick }
     requires seats { opening.seats ≡ length scenario.now.plans + 1 }
     requires names { NamesWhatItHas scenario.now }
     ensures told { IfErr result (λ fault. IsOfText fault → ⊥) }
-    ensures played { IfOk result (λ lines. TellsAPlay scenario.now how.explain lines.items) }
+    ensures played { IfOk result (λ p. TellsAPlay scenario.now
+        (wanted asked.face asked.strict (map (λ s. s.now) asked.kept_open.now)) p.text.items p.well) }
 {
     let (hub, seats) = opening.open::<J>(alloc)?;
-    let (stage, seats, left) = play_all(rt, alloc, &hub, seats, scenario, how.one, watch)?;
+    let (stage, seats, left) = play_all(rt, alloc, &hub, seats, scenario, asked.one, watch)?;
     let closed = hub.close(seats);
-    let text = played_text(alloc, closed.chain(), scenario, &stage, &left, how.explain)?;
-    Ok(text)
+    let played = played_text(alloc, closed.chain(), scenario, &stage, &left, asked)?;
+    Ok(played)
 }
 
 // Sets the scenario up by the first seat, and has each plan played by a party with one of the others: what was set up, all

@@ -1,1 +1,2 @@
 mod PartsFit
+pub mod WithinLaws

@@ -2,7 +2,7 @@
 use Rattle.std.specs.Prelude.{ℕ, List, Option, Some, None, Result, Ok, Err}
 use Rattle.collections.specs.Answers.{◌>>=◌}
 use Rattle.contract.specs.Tree.{ContractTree, contract_tree}
-use Rattle.json_read_names.specs.ReadsText.{of_text}
+use Rattle.json_read_names.specs.ReadsText.{of_text, of_text_within}
 use Rattle.json_read_contracts.specs.ReadsContract.{contract}
 use Rattle.lowering.specs.Code.{code}
 use Rattle.compiler.specs.declared.fault.CompileFault.{CompileFault}
@@ -28,3 +28,7 @@ printed_table c = unless_fault (contract_lines c) (compile_fault c)
 -- the contract is read first
 unfoldable pub table_text : List ℕ → Result (List ℕ) TableFault
 table_text text = read_as table_contract_fault (of_text contract text) >>= λ given. printed_table (contract_tree given)
+
+-- the same of a contract of this depth
+unfoldable pub table_text_within : ℕ → List ℕ → Result (List ℕ) TableFault
+table_text_within depth text = read_as table_contract_fault (of_text_within depth contract text) >>= λ given. printed_table (contract_tree given)

@@ -5,13 +5,15 @@
 mod dropped;
 mod laws;
 mod outcomes;
+mod readable;
 mod start;
 mod tables;
 mod transaction;
 
 pub use dropped::beside_dropped;
-pub use laws::parts_can_be_written;
+pub use laws::{parts_can_be_written, runs_within_127};
 pub use outcomes::outcome_line;
+pub use readable::Readable;
 pub use start::read_start;
-pub use tables::table_text;
-pub use transaction::{run, run_with_texts};
+pub use tables::{printed_table, table_text, table_text_within};
+pub use transaction::{outcome_text, run, run_with_texts, run_within};

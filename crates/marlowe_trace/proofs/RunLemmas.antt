@@ -9,7 +9,7 @@ use Rattle.contract.specs.declared.tree.Contract.{Contract}
 use Rattle.contract.specs.Tree.{ContractTree, contract_tree}
 use Rattle.states.specs.States.{StateMaps}
 use Rattle.json_read_names.specs.Parts.{Reading}
-use Rattle.json_read_names.specs.ReadsText.{of_text}
+use Rattle.json_read_names.specs.ReadsText.{of_text, of_text_within}
 use Rattle.json_read_names.specs.declared.fault.JsonFault.{JsonFault}
 use Rattle.json_read_names.specs.declared.fault.JsonFault.TheVariants as json
 use Rattle.json_read_contracts.specs.ReadsContract.{contract}
@@ -25,7 +25,8 @@ use Rattle.marlowe_refusals.specs.declared.trace_fault.TraceFault.{TraceFault}
 use Rattle.marlowe_refusals.specs.declared.trace_fault.TraceFault.TheVariants as trace
 use Rattle.marlowe_refusals.specs.Faults.{read_as, contract_fault, state_fault, transaction_fault, semantics_fault}
 use Rattle.marlowe_refusals.specs.TraceFaults.{told_as, texts_fault}
-use Rattle.marlowe_run.specs.Run.{printed, answer_text, transaction_text, run_from, run_by}
+use Rattle.marlowe_run.specs.declared.readable.Readable.{Readable}
+use Rattle.marlowe_run.specs.Run.{printed, answer_text, transaction_text, run_from, run_within}
 use Rattle.marlowe_run.specs.Start.{state_reading}
 use Rattle.marlowe_trace.specs.declared.texts.Asked.{Asked}
 use Rattle.marlowe_trace.specs.Traced.{Told, lines_of, refused_of, told_of, trace_from, trace_text}
@@ -89,31 +90,31 @@ module _ (asked : Asked) (t : List ℕ) (tx : Transaction) (is : of_text transac
 
   by_contract : (s : List ℕ) (r : Reading Contract)
       → (read_as (λ f. trace.Run (contract_fault f)) r >>= λ given. trace_from asked (contract_tree given) (Some s) (t ∷ []))
-      ≡ as_trace (read_as contract_fault r >>= λ given. run_from (state_reading asked.texts) (contract_tree given) s t)
+      ≡ as_trace (read_as contract_fault r >>= λ given. run_from (state_reading asked.readable.text_numbers) (contract_tree given) s t)
   unfolding trace_from run_from
-  by_contract s (Ok given) = by_state (contract_tree given) (of_text (state_reading asked.texts) s)
+  by_contract s (Ok given) = by_state (contract_tree given) (of_text (state_reading asked.readable.text_numbers) s)
   by_contract s (Err f) = sym (told_contract f)
 
 pub one_is_a_run : OneIsARun
-unfolding trace_text run_by
-one_is_a_run asked c s t tx is = by_contract asked t tx is s (of_text contract c)
+unfolding trace_text run_within
+one_is_a_run asked c s t tx is = by_contract asked t tx is s (of_text_within asked.readable.depth contract c)
 
 -- ---- one after another
 
 -- a trace from texts that stand for where a contract stands
-traced_from : (texts : Bool) (c s : List ℕ) (ts : List (List ℕ)) (a : Standing) (txs : List Transaction) → StandsFor texts c s a → transactions_of ts ≡ Ok txs → trace_text (all_of texts) c (Some s) ts ≡ Ok (told_of false a txs)
+traced_from : (readable : Readable) (c s : List ℕ) (ts : List (List ℕ)) (a : Standing) (txs : List Transaction) → StandsFor readable c s a → transactions_of ts ≡ Ok txs → trace_text (all_of readable) c (Some s) ts ≡ Ok (told_of false a txs)
 unfolding trace_text trace_from
-traced_from texts c s ts a txs h is =
-    ap (λ (r : Reading Contract). read_as (λ f. trace.Run (contract_fault f)) r >>= λ given. trace_from (all_of texts) (contract_tree given) (Some s) ts) h.1
-    ∙ (ap (λ (tree : ContractTree). trace_from (all_of texts) tree (Some s) ts) h.2
+traced_from readable c s ts a txs h is =
+    ap (λ (r : Reading Contract). read_as (λ f. trace.Run (contract_fault f)) r >>= λ given. trace_from (all_of readable) (contract_tree given) (Some s) ts) h.1
+    ∙ (ap (λ (tree : ContractTree). trace_from (all_of readable) tree (Some s) ts) h.2
     ∙ (ap (λ (r : Reading StateMaps). read_as (λ f. trace.Run (state_fault f)) r >>= λ st. told_as texts_fault (transactions_of ts) >>= λ us. told false (standing st a.contract) us) h.3
     ∙ ap (λ (q : Result (List Transaction) ReadFault). told_as texts_fault q >>= λ us. told false a us) is))
 
-run_from_there : (texts : Bool) (c s t : List ℕ) (a b : Standing) (tx : Transaction) → StandsFor texts c s a → of_text transaction t ≡ Ok tx → answer_of (walk_from a tx) ≡ Ok b → run_by (state_reading texts) c s t ≡ Ok (printed (walk_from a tx) b)
-unfolding run_by run_from
-run_from_there texts c s t a b tx h is next =
-    ap (λ (r : Reading Contract). read_as contract_fault r >>= λ given. run_from (state_reading texts) (contract_tree given) s t) h.1
-    ∙ (ap (λ (tree : ContractTree). run_from (state_reading texts) tree s t) h.2
+run_from_there : (readable : Readable) (c s t : List ℕ) (a b : Standing) (tx : Transaction) → StandsFor readable c s a → of_text transaction t ≡ Ok tx → answer_of (walk_from a tx) ≡ Ok b → run_within readable c s t ≡ Ok (printed (walk_from a tx) b)
+unfolding run_within run_from
+run_from_there readable c s t a b tx h is next =
+    ap (λ (r : Reading Contract). read_as contract_fault r >>= λ given. run_from (state_reading readable.text_numbers) (contract_tree given) s t) h.1
+    ∙ (ap (λ (tree : ContractTree). run_from (state_reading readable.text_numbers) tree s t) h.2
     ∙ (ap (λ (r : Reading StateMaps). read_as state_fault r >>= λ st. read_as transaction_fault (of_text transaction t) >>= λ u. transaction_text st a.contract u) h.3
     ∙ (ap (λ (q : Reading Transaction). read_as transaction_fault q >>= λ u. transaction_text a.state a.contract u) is ∙ ap (answer_text (walk_from a tx)) next)))
 
@@ -136,8 +137,8 @@ told_more a b tx txs h =
     λ i. Ok (lines i, refused i)
 
 pub trace_is_runs : TraceIsRuns
-trace_is_runs texts c s t d u ts a b tx txs from is next there read = (
-  run_from_there texts c s t a b tx from is next,
-  traced_from texts c s (t ∷ ts) a (tx ∷ txs) from read
-      ∙ (told_more a b tx txs next ∙ ap (behind (printed (walk_from a tx) b)) (sym (traced_from texts d u ts b txs there (rest_is_read t ts tx txs is read)))),
+trace_is_runs readable c s t d u ts a b tx txs from is next there read = (
+  run_from_there readable c s t a b tx from is next,
+  traced_from readable c s (t ∷ ts) a (tx ∷ txs) from read
+      ∙ (told_more a b tx txs next ∙ ap (behind (printed (walk_from a tx) b)) (sym (traced_from readable d u ts b txs there (rest_is_read t ts tx txs is read)))),
 )

@@ -1,9 +1,9 @@
 -- A trace is runs, one after another.
-use Rattle.std.specs.Prelude.{◌≡◌, ℕ, suc, Bool, false, List, [], ◌∷◌, ◌++◌, Some, None, option_map, Result, Ok, Err}
+use Rattle.std.specs.Prelude.{◌≡◌, ℕ, suc, false, List, [], ◌∷◌, ◌++◌, Some, None, option_map, Result, Ok, Err}
 use Rattle.contract.specs.Tree.{contract_tree}
 use Rattle.contract.specs.declared.tree.Contract.{Contract}
 use Rattle.contract.specs.declared.transaction.Transaction.{Transaction}
-use Rattle.json_read_names.specs.ReadsText.{of_text}
+use Rattle.json_read_names.specs.ReadsText.{of_text, of_text_within}
 use Rattle.json_read_contracts.specs.ReadsContract.{contract}
 use Rattle.json_read_inputs.specs.ReadsInput.{transaction}
 use Rattle.json_read_transactions.specs.ReadsTransactions.{transactions_of}
@@ -13,7 +13,8 @@ use Rattle.marlowe_refusals.specs.declared.fault.RunFault.{RunFault}
 use Rattle.marlowe_refusals.specs.declared.fault.RunFault.TheVariants as run
 use Rattle.marlowe_refusals.specs.declared.trace_fault.TraceFault.{TraceFault}
 use Rattle.marlowe_refusals.specs.declared.trace_fault.TraceFault.TheVariants as trace
-use Rattle.marlowe_run.specs.Run.{run_by, printed}
+use Rattle.marlowe_run.specs.declared.readable.Readable.{Readable}
+use Rattle.marlowe_run.specs.Run.{run_within, printed}
 use Rattle.marlowe_run.specs.Start.{state_reading}
 use Rattle.marlowe_trace.specs.declared.texts.Asked.{Asked}
 use Rattle.marlowe_trace.specs.Traced.{Told, trace_text}
@@ -27,11 +28,12 @@ as_trace (Err fault) = Err (trace.Run fault)
 -- the trace of one transaction is its run
 abbrev pub OneIsARun : Type 0
 OneIsARun = (asked : Asked) (c s t : List ℕ) (tx : Transaction) → of_text transaction t ≡ Ok tx
-    → trace_text asked c (Some s) (t ∷ []) ≡ as_trace (run_by (state_reading asked.texts) c s t)
+    → trace_text asked c (Some s) (t ∷ []) ≡ as_trace (run_within asked.readable c s t)
 
 -- a contract and a state are read from these texts
-abbrev pub StandsFor : Bool → List ℕ → List ℕ → Standing → Type 0
-StandsFor texts c s a = (given : Contract) × (of_text contract c ≡ Ok given) × (contract_tree given ≡ a.contract) × (of_text (state_reading texts) s ≡ Ok a.state)
+abbrev pub StandsFor : Readable → List ℕ → List ℕ → Standing → Type 0
+StandsFor readable c s a =
+    (given : Contract) × (of_text_within readable.depth contract c ≡ Ok given) × (contract_tree given ≡ a.contract) × (of_text (state_reading readable.text_numbers) s ≡ Ok a.state)
 
 -- the next number
 abbrev pub renumbered : TraceFault → TraceFault
@@ -44,12 +46,12 @@ behind line (Ok told) = Ok (line ++ told.0, option_map renumbered told.1)
 behind line (Err fault) = Err fault
 
 -- texts of which all outcomes are printed
-abbrev pub all_of : Bool → Asked
-all_of texts = record { texts = texts; last = false }
+abbrev pub all_of : Readable → Asked
+all_of readable = record { readable = readable; last = false }
 
 -- a first transaction prints what its run prints, and the others print what they do from any texts that stand for where it leaves the contract
 abbrev pub TraceIsRuns : Type 0
-TraceIsRuns = (texts : Bool) (c s t d u : List ℕ) (ts : List (List ℕ)) (a b : Standing) (tx : Transaction) (txs : List Transaction)
-    → StandsFor texts c s a → of_text transaction t ≡ Ok tx → answer_of (walk_from a tx) ≡ Ok b → StandsFor texts d u b → transactions_of (t ∷ ts) ≡ Ok (tx ∷ txs)
-    → (run_by (state_reading texts) c s t ≡ Ok (printed (walk_from a tx) b))
-    × (trace_text (all_of texts) c (Some s) (t ∷ ts) ≡ behind (printed (walk_from a tx) b) (trace_text (all_of texts) d (Some u) ts))
+TraceIsRuns = (readable : Readable) (c s t d u : List ℕ) (ts : List (List ℕ)) (a b : Standing) (tx : Transaction) (txs : List Transaction)
+    → StandsFor readable c s a → of_text transaction t ≡ Ok tx → answer_of (walk_from a tx) ≡ Ok b → StandsFor readable d u b → transactions_of (t ∷ ts) ≡ Ok (tx ∷ txs)
+    → (run_within readable c s t ≡ Ok (printed (walk_from a tx) b))
+    × (trace_text (all_of readable) c (Some s) (t ∷ ts) ≡ behind (printed (walk_from a tx) b) (trace_text (all_of readable) d (Some u) ts))

@@ -6,7 +6,7 @@ use Rattle.contract.specs.declared.fault.SemFault.{SemFault}
 use Rattle.contract.specs.declared.transaction.Transaction.{Transaction}
 use Rattle.contract.specs.declared.tree.Contract.{Contract}
 use Rattle.states.specs.States.{StateMaps}
-use Rattle.json_read_names.specs.ReadsText.{of_text}
+use Rattle.json_read_names.specs.ReadsText.{of_text_within}
 use Rattle.json_read_contracts.specs.ReadsContract.{contract}
 use Rattle.json_read_inputs.specs.ReadsState.{state_with_texts}
 use Rattle.json_read_transactions.specs.ReadsTransactions.{transactions_of}
@@ -74,21 +74,21 @@ StatesReturn a (t ∷ ts) = ReturnsThen (answer_of (walk_from a t)) (λ b. State
 -- the state and the texts of transactions are read in turn
 unfoldable pub trace_from : Asked → ContractTree → Option (List ℕ) → List (List ℕ) → Result Told TraceFault
 trace_from asked c start texts =
-    read_as (λ f. trace.Run (state_fault f)) (start_of asked.texts start) >>= λ s.
+    read_as (λ f. trace.Run (state_fault f)) (start_of asked.readable.text_numbers start) >>= λ s.
     told_as texts_fault (transactions_of texts) >>= λ ts.
     Ok (told_of asked.last (standing s c) ts)
 
 -- the contract is read first
 unfoldable pub trace_text : Asked → List ℕ → Option (List ℕ) → List (List ℕ) → Result Told TraceFault
-trace_text asked c start texts = read_as (λ f. trace.Run (contract_fault f)) (of_text contract c) >>= λ given. trace_from asked (contract_tree given) start texts
+trace_text asked c start texts = read_as (λ f. trace.Run (contract_fault f)) (of_text_within asked.readable.depth contract c) >>= λ given. trace_from asked (contract_tree given) start texts
 
 -- whatever state and transactions the texts are read as
 abbrev pub StatesReturnFrom : Asked → ContractTree → Option (List ℕ) → List (List ℕ) → Type 0
-StatesReturnFrom asked c start texts = (s : StateMaps) (ts : List Transaction) → start_of asked.texts start ≡ Ok s → transactions_of texts ≡ Ok ts → StatesReturn (standing s c) ts
+StatesReturnFrom asked c start texts = (s : StateMaps) (ts : List Transaction) → start_of asked.readable.text_numbers start ≡ Ok s → transactions_of texts ≡ Ok ts → StatesReturn (standing s c) ts
 
 -- .. and whatever contract
 abbrev pub AllStatesReturn : Asked → List ℕ → Option (List ℕ) → List (List ℕ) → Type 0
-AllStatesReturn asked text start texts = (given : Contract) → of_text contract text ≡ Ok given → StatesReturnFrom asked (contract_tree given) start texts
+AllStatesReturn asked text start texts = (given : Contract) → of_text_within asked.readable.depth contract text ≡ Ok given → StatesReturnFrom asked (contract_tree given) start texts
 
 -- A call has no fault of writing.
 abbrev pub CanBeWritten : Result Traced TraceFault → Type 0

@@ -6,4 +6,5 @@ mod steps;
 mod texts;
 
 pub use laws::{a_trace_is_runs, one_transaction_is_a_run};
+pub use steps::traced;
 pub use texts::{Asked, Traced, trace};

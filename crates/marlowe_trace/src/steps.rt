@@ -25,8 +25,9 @@ struct Place<'c> {
     contract: &'c Contract,
 }
 
-// What is printed of transactions from where a contract stands.
-pub(crate) fn traced(
+/// What is printed of transactions from where a contract stands: what `trace` prints once all is read, of each outcome or of the `last`
+/// alone. JSON has all numbers of the contract, as of each that was read.
+pub fn traced(
     alloc: Global,
     contract: &Contract,
     state: State,

@@ -7,17 +7,17 @@ ghost use Rattle.marlowe_trace.specs.Traced.{AllStatesReturn, CanBeWritten, Stat
 
 use crate::steps::traced;
 use contract::Contract;
-use contract_json::{read_contract, what_is_read_can_be_written};
+use contract_json::{read_contract_within, what_is_read_within_can_be_written};
 use json_read_transactions::read_transactions;
 use marlowe_refusals::{RunFault, TraceFault};
-use marlowe_run::{beside_dropped, read_start};
+use marlowe_run::{Readable, beside_dropped, read_start};
 use std::alloc::Global;
 
 /// How transactions are traced.
 #[derive(Clone, Copy, Debug)]
 pub struct Asked {
-    /// Whether a number of the state may also be a text of its digits, as `read_state_with_texts` has it.
-    pub texts: bool,
+    /// How deep the contract may nest, and whether a number of the state may be a text of its digits.
+    pub readable: Readable,
     /// Whether the last outcome alone is printed.
     pub last: bool,
 }
@@ -49,8 +49,8 @@ pub fn trace(
         (option_map (λ text. text.now) state.entry) (map (λ text. text.items) transactions.now)) }
     ensures written { CanBeWritten result }
 {
-    what_is_read_can_be_written();
-    match read_contract(alloc, contract) {
+    what_is_read_within_can_be_written();
+    match read_contract_within(alloc, contract, asked.readable.depth) {
         Ok(contract) => {
             let traced = trace_from(alloc, &contract, state, transactions, asked);
             beside_dropped(contract, traced)
@@ -76,7 +76,7 @@ fn trace_from(
         (option_map (λ text. text.now) state.entry) (map (λ text. text.items) transactions.now)) }
     ensures written { CanBeWritten result }
 {
-    let state = read_start(alloc, state, asked.texts).map_err(RunFault::of_state)?;
+    let state = read_start(alloc, state, asked.readable.text_numbers).map_err(RunFault::of_state)?;
     let transactions = read_transactions(alloc, transactions)?;
     let traced = traced(alloc, contract, state, transactions.as_slice(), asked.last)?;
     Ok(traced)

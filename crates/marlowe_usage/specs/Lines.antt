@@ -1,5 +1,5 @@
 -- The command line: its commands and their arguments, as a command of the library that reads the words.
-use Rattle.std.specs.Prelude.{◌≡◌, IfOk, List, [], ◌∷◌, Some, fold, negsuc, pos, true, false, codes}
+use Rattle.std.specs.Prelude.{◌≡◌, ℕ, IfOk, List, [], ◌∷◌, Some, fold, negsuc, pos, true, false, codes}
 use Rattle.clap.specs.Lexer.{usize_max}
 use Rattle.clap.specs.Words.{App, Rule, Text, app_of, new_app, new_rule, rule_of, with_rule, with_subcommand}
 use Rattle.clap.specs.declared.Command.{Command}
@@ -35,6 +35,10 @@ option name = record (new_rule name) { long = Some name; value_names = 1 }
 abbrev pub time : Text → Rule
 time name = record (option name) { parser = Some (Signed (negsuc 9223372036854775807) (pos 9223372036854775807)) }
 
+-- .. whose value is a number from one to another
+abbrev pub number : ℕ → ℕ → Text → Rule
+number least most name = record (option name) { parser = Some (Signed (pos least) (pos most)) }
+
 -- .. which may be given again and again, each with one value
 abbrev pub options : Text → Rule
 options name = record (option name) { action = Some Append }
@@ -53,30 +57,40 @@ text_numbers = flag (codes "text-numbers")
 abbrev pub explain : Rule
 explain = flag (codes "explain")
 
--- `run CONTRACT STATE TX [--text-numbers] [--explain]`
+-- JSON for tools, a refusal too
+abbrev pub json : Rule
+json = flag (codes "json")
+
+-- how deep lists and objects may nest
+abbrev pub depth : Rule
+depth = number 127 4000 (codes "depth")
+
+-- `run CONTRACT STATE TX [--json] [--depth N] [--text-numbers] [--explain]`
 abbrev pub run_rules : List Rule
-run_rules = given (codes "CONTRACT") ∷ given (codes "STATE") ∷ given (codes "TX") ∷ text_numbers ∷ explain ∷ []
+run_rules = given (codes "CONTRACT") ∷ given (codes "STATE") ∷ given (codes "TX") ∷ json ∷ depth ∷ text_numbers ∷ explain ∷ []
 
--- `trace CONTRACT TX.. [--state STATE] [--last] [--text-numbers] [--explain]`
+-- `trace CONTRACT TX.. [--state STATE] [--last] [--json] [--depth N] [--text-numbers] [--explain]`
 abbrev pub trace_rules : List Rule
-trace_rules = given (codes "CONTRACT") ∷ several (codes "TX") ∷ option (codes "state") ∷ flag (codes "last") ∷ text_numbers ∷ explain ∷ []
+trace_rules = given (codes "CONTRACT") ∷ several (codes "TX") ∷ option (codes "state") ∷ flag (codes "last") ∷ json ∷ depth ∷ text_numbers ∷ explain ∷ []
 
--- `next CONTRACT [STATE] [--from T] [--to T] [--after TX].. [--json] [--text-numbers] [--explain]`
+-- `next CONTRACT [STATE] [--from T] [--to T] [--after TX].. [--json] [--depth N] [--text-numbers] [--explain]`
 abbrev pub next_rules : List Rule
 next_rules = given (codes "CONTRACT") ∷ optional (codes "STATE") ∷ time (codes "from") ∷ time (codes "to") ∷ options (codes "after")
-    ∷ flag (codes "json") ∷ text_numbers ∷ explain ∷ []
+    ∷ json ∷ depth ∷ text_numbers ∷ explain ∷ []
 
--- `table CONTRACT [--explain]`
+-- `table CONTRACT [--json] [--depth N] [--explain]`
 abbrev pub table_rules : List Rule
-table_rules = given (codes "CONTRACT") ∷ explain ∷ []
+table_rules = given (codes "CONTRACT") ∷ json ∷ depth ∷ explain ∷ []
 
--- `analyse CONTRACT [STATE] [--json] [--no-runs] [--strict] [--text-numbers] [--explain]`
+-- `analyse CONTRACT [STATE] [--json] [--no-runs] [--strict] [--depth N] [--text-numbers] [--explain]`
 abbrev pub analyse_rules : List Rule
-analyse_rules = given (codes "CONTRACT") ∷ optional (codes "STATE") ∷ flag (codes "json") ∷ flag (codes "no-runs") ∷ flag (codes "strict") ∷ text_numbers ∷ explain ∷ []
+analyse_rules = given (codes "CONTRACT") ∷ optional (codes "STATE") ∷ json ∷ flag (codes "no-runs") ∷ flag (codes "strict")
+    ∷ depth ∷ text_numbers ∷ explain ∷ []
 
--- `play SCENARIO [--one] [--explain]`
+-- `play SCENARIO [--one] [--strict] [--expect-open NAME].. [--json] [--depth N] [--explain]`
 abbrev pub play_rules : List Rule
-play_rules = given (codes "SCENARIO") ∷ flag (codes "one") ∷ flag (codes "explain") ∷ []
+play_rules = given (codes "SCENARIO") ∷ flag (codes "one") ∷ flag (codes "strict") ∷ options (codes "expect-open")
+    ∷ json ∷ depth ∷ flag (codes "explain") ∷ []
 
 -- the program without its commands: it has a version and needs a command
 abbrev pub program : App

@@ -1,10 +1,10 @@
 //! The commands, with their arguments and help.
 ghost use Rattle.std.specs.Prelude.{IfOk, codes};
-ghost use Rattle.marlowe_usage.specs.Lines.{IsArgument, IsCommand, IsDraft, given, text_numbers, explain, command, program};
+ghost use Rattle.marlowe_usage.specs.Lines.{IsArgument, IsCommand, IsDraft, given, json, depth, text_numbers, explain, command, program};
 ghost use Rattle.marlowe_usage.specs.Lines.{run_rules, trace_rules, next_rules, table_rules, analyse_rules, play_rules, command_line};
 
 use crate::draft::Draft;
-use crate::kinds::{flag, given, option, optional, options, several, time};
+use crate::kinds::{depth_option, flag, given, option, optional, options, several, time};
 use clap::{Arg, Command};
 use std::alloc::{AllocError, Global};
 
@@ -47,6 +47,22 @@ fn contract<'a>(alloc: Global) -> Arg<'a>
     given(alloc, "CONTRACT", help)
 }
 
+// The flag for JSON.
+fn json<'a>(alloc: Global) -> Arg<'a>
+    ensures { IsArgument json result }
+{
+    let help = "Prints JSON, for tools, a refusal too";
+    flag(alloc, "json", help)
+}
+
+// The option for the depth to which lists and objects may nest.
+fn depth<'a>(alloc: Global) -> Arg<'a>
+    ensures { IsArgument depth result }
+{
+    let help = "How deep lists and objects may nest, from 127 to 4000; without it 127";
+    depth_option(alloc, "depth", help)
+}
+
 // The flag for numbers of a state.
 fn text_numbers<'a>(alloc: Global) -> Arg<'a>
     ensures { IsArgument text_numbers result }
@@ -68,7 +84,7 @@ fn run_command<'a>(alloc: Global) -> Draft<'a>
 {
     let about = "Computes one transaction and prints its outcome as JSON.";
     let after_help =
-        "Status 0: the outcome is printed. 1: a text or the transaction is refused. 2: a file or these words are at fault.\n\nExample:\n  marlowe run contract.json state.json transaction.json";
+        "Status 0: the outcome is printed. 1: a text or the transaction is refused; with --json 4 for a text. 2: a file\nor these words are at fault.\n\nExample:\n  marlowe run contract.json state.json transaction.json";
     let state = "The state: accounts, choices, boundValues and minTime";
     let transaction = "The transaction: tx_interval and tx_inputs";
     Draft::new(alloc, "run", about)
@@ -76,6 +92,8 @@ fn run_command<'a>(alloc: Global) -> Draft<'a>
         .with(contract(alloc))
         .with(given(alloc, "STATE", state))
         .with(given(alloc, "TX", transaction))
+        .with(json(alloc))
+        .with(depth(alloc))
         .with(text_numbers(alloc))
         .with(explain(alloc))
 }
@@ -85,7 +103,7 @@ fn trace_command<'a>(alloc: Global) -> Draft<'a>
 {
     let about = "Computes transactions one after another and prints the outcome of each as JSON.";
     let after_help =
-        "Each starts in the contract and the state in which the one before it ended. The first that is refused ends the\ntrace: its number and its fault are on standard error.\n\nStatus 0: all are accepted. 1: a text or a transaction is refused. 2: a file or these words are at fault.\n\nExample:\n  marlowe trace contract.json first.json then.json --last";
+        "Each starts in the contract and the state in which the one before it ended. The first that is refused ends the\ntrace: its number and its fault are on standard error.\n\nStatus 0: all are accepted. 1: a text or a transaction is refused; with --json 4 for a text. 2: a file or these\nwords are at fault.\n\nExample:\n  marlowe trace contract.json first.json then.json --last";
     let transactions = "Transactions: one, a list of them, or one on each line";
     let state = "The state from which they start; without it no accounts and time 0";
     let last = "Prints the last outcome alone";
@@ -95,6 +113,8 @@ fn trace_command<'a>(alloc: Global) -> Draft<'a>
         .with(several(alloc, "TX", transactions))
         .with(option(alloc, "state", "STATE", state))
         .with(flag(alloc, "last", last))
+        .with(json(alloc))
+        .with(depth(alloc))
         .with(text_numbers(alloc))
         .with(explain(alloc))
 }
@@ -104,12 +124,11 @@ fn next_command<'a>(alloc: Global) -> Draft<'a>
 {
     let about = "Prints the inputs that a contract takes next, and until when it waits for one.";
     let after_help =
-        "A time is a number of milliseconds since 1970 began. Without --from it is the state's minimum time, and without\n--to it is --from. What is printed is described in docs/formats.md.\n\nStatus 0: it is printed. 1: a text, a transaction or the interval is refused. 2: a file or these words are at fault.\n\nExample:\n  marlowe next contract.json state.json --from 1735689600000";
+        "A time is a number of milliseconds since 1970 began. Without --from it is the state's minimum time, and without\n--to it is --from. What is printed is described in docs/formats.md.\n\nStatus 0: it is printed. 1: a text, a transaction or the interval is refused; with --json 4 for a text. 2: a file or\nthese words are at fault.\n\nExample:\n  marlowe next contract.json state.json --from 1735689600000";
     let state = "The state in which it is; without it no accounts and time 0";
     let from = "The first millisecond of the next transaction's interval";
     let to = "The last millisecond of that interval";
     let after = "Transactions that come before: one, a list of them, or one on each line";
-    let json = "Prints JSON, for tools";
     Draft::new(alloc, "next", about)
         .after_help(after_help)
         .with(contract(alloc))
@@ -117,7 +136,8 @@ fn next_command<'a>(alloc: Global) -> Draft<'a>
         .with(time(alloc, "from", from))
         .with(time(alloc, "to", to))
         .with(options(alloc, "after", "TX", after))
-        .with(flag(alloc, "json", json))
+        .with(json(alloc))
+        .with(depth(alloc))
         .with(text_numbers(alloc))
         .with(explain(alloc))
 }
@@ -127,10 +147,12 @@ fn table_command<'a>(alloc: Global) -> Draft<'a>
 {
     let about = "Compiles a contract and prints its table, a line for each node.";
     let after_help =
-        "Status 0: the table is printed. 1: the contract is refused. 2: a file or these words are at fault.\n\nExample:\n  marlowe table contract.json";
+        "Status 0: the table is printed. 1: the contract is refused; with --json 4 where its text isn't read. 2: a file or\nthese words are at fault.\n\nExample:\n  marlowe table contract.json";
     Draft::new(alloc, "table", about)
         .after_help(after_help)
         .with(contract(alloc))
+        .with(json(alloc))
+        .with(depth(alloc))
         .with(explain(alloc))
 }
 
@@ -140,18 +162,18 @@ fn analyse_command<'a>(alloc: Global) -> Draft<'a>
     let about =
         "Says which warnings a contract can give, in any run, and what each party can be paid.";
     let after_help =
-        "An alarm has its kind, its place in the contract's text, and a run that ends in it, a transaction a line, or\n`not known`. What is promised, and what `not known` means, is described in docs/analysis.md.\n\nStatus 0: it never warns and stays within 128 bits. 3: there is an alarm. 1: a text is refused. 2: a file or\nthese words are at fault.\n\nExample:\n  marlowe analyse contract.json --no-runs";
+        "An alarm has its kind, its place in the contract's text, and a run that ends in it, a transaction a line, or\n`not known`. What is promised, and what `not known` means, is described in docs/analysis.md.\n\nStatus 0: it never warns and stays within 128 bits. 3: there is an alarm. 1: a text is refused; with --json 4.\n2: a file or these words are at fault.\n\nExample:\n  marlowe analyse contract.json --no-runs";
     let state = "The state from which it starts; without it no accounts and time 0";
-    let json = "Prints JSON, for tools";
     let no_runs = "Looks for no runs, which takes most of the time where none is found";
     let strict = "Status 3 also where a part is told that no run reaches";
     Draft::new(alloc, "analyse", about)
         .after_help(after_help)
         .with(contract(alloc))
         .with(optional(alloc, "STATE", state))
-        .with(flag(alloc, "json", json))
+        .with(json(alloc))
         .with(flag(alloc, "no-runs", no_runs))
         .with(flag(alloc, "strict", strict))
+        .with(depth(alloc))
         .with(text_numbers(alloc))
         .with(explain(alloc))
 }
@@ -161,14 +183,21 @@ fn play_command<'a>(alloc: Global) -> Draft<'a>
 {
     let about = "Plays a scenario and prints a line for each call that was answered.";
     let after_help =
-        "A scenario says what a ledger begins with, which contracts are published and started on it,\nand what each party means to do there. Its form is described in docs/formats.md.\n\nStatus 0: it was played to its end. 1: the scenario or its setup is refused. 2: a file or these words are at fault.\n\nExample:\n  marlowe play scenario.json --one";
+        "A scenario says what a ledger begins with, which contracts are published and started on it,\nand what each party means to do there. Its form is described in docs/formats.md.\n\nStatus 0: it was played to its end. 3: with --strict, not all went well. 1: the scenario or its setup\nis refused; with --json 4 for its text. 2: a file or these words are at fault.\n\nExample:\n  marlowe play scenario.json --one";
     let scenario = "The scenario, as a JSON file";
     let one = "Plays the plans one after another, so that the text is always the same";
     let explain =
-        "Says at the end who holds what, which payouts are unclaimed, and what contracts hold";
+        "Says what each step did, what was refused or not built, how each intent ended, and who holds what";
+    let strict = "Status 3 where an intent isn't done, or a thread isn't closed at the end";
+    let open =
+        "With --strict, a thread that may stay open, by its name; as often as there are such";
     Draft::new(alloc, "play", about)
         .after_help(after_help)
         .with(given(alloc, "SCENARIO", scenario))
         .with(flag(alloc, "one", one))
+        .with(flag(alloc, "strict", strict))
+        .with(options(alloc, "expect-open", "NAME", open))
+        .with(json(alloc))
+        .with(depth(alloc))
         .with(flag(alloc, "explain", explain))
 }

@@ -1,5 +1,5 @@
 //! The kinds of arguments that the commands have.
-ghost use Rattle.marlowe_usage.specs.Lines.{IsArgument, given, several, optional, flag, option, time, options};
+ghost use Rattle.marlowe_usage.specs.Lines.{IsArgument, given, several, optional, flag, option, time, number, options};
 
 use clap::{Arg, ArgAction, value_parser};
 use std::alloc::Global;
@@ -50,6 +50,13 @@ pub fn time<'a>(alloc: Global, name: &'a str, help: &'a str) -> Arg<'a>
     ensures { IsArgument (time name.entry.now) result }
 {
     option(alloc, name, "T", help).value_parser(value_parser!(i64))
+}
+
+/// An option whose value is a depth: a number from 127 to 4,000.
+pub fn depth_option<'a>(alloc: Global, name: &'a str, help: &'a str) -> Arg<'a>
+    ensures { IsArgument (number 127 4000 name.entry.now) result }
+{
+    option(alloc, name, "N", help).value_parser(value_parser!(i64).range(127..=4_000))
 }
 
 /// An option that may be given again and again, each time with one value.

@@ -40,7 +40,9 @@ fn contract_at(contracts: &[NamedContract], place: usize) -> Option<&NamedContra
     contracts.get(place)
 }
 
-fn contract_named(
+/// The name of the contract at a place of a list, as a JSON text; where there is none, nothing. Answers `Memory` only where a growth was
+/// refused.
+pub fn contract_name(
     alloc: Global,
     contracts: &[NamedContract],
     place: usize,
@@ -89,7 +91,7 @@ pub fn intent_text(
             Ok(text)
         }
         Intent::Claim { contract, role, .. } => {
-            let name = contract_named(alloc, contracts, *contract)?;
+            let name = contract_name(alloc, contracts, *contract)?;
             let role = term_text(alloc, role)?;
             format!(in alloc; "claim {name} {role}")
         }
@@ -112,7 +114,9 @@ fn funds_words(
     }
 }
 
-fn cause_words(
+/// What hinders an intent to which these outputs were offered, in words: of funds how much lacks. Answers `Memory` only where a growth was
+/// refused.
+pub fn cause_words(
     alloc: Global,
     intent: &Intent<usize, usize>,
     offered: &[Unspent],
@@ -149,8 +153,8 @@ pub fn is_no_thread(fault: &BuildFault) -> bool
     }
 }
 
-// Whether it is a claim that was shown no payout.
-fn asks_for_nothing(intent: &Intent<usize, usize>, fault: &BuildFault) -> bool
+/// Whether it is a claim that was shown no payout.
+pub fn asks_for_nothing(intent: &Intent<usize, usize>, fault: &BuildFault) -> bool
     ensures { result ≡ asks_for_nothing intent.now fault.now }
 {
     match intent {

@@ -12,7 +12,10 @@ mod notes;
 mod replies;
 mod worked;
 
-pub use intents::{intent_text, is_no_thread, thread_name, unbuilt_text};
+pub use intents::{
+    asks_for_nothing, cause_words, contract_name, intent_text, is_no_thread, thread_name,
+    unbuilt_text,
+};
 pub use noted::noted_lines;
 pub use notes::{notes_of, put_behind};
 pub use worked::worked_notes;

@@ -5,17 +5,17 @@ use Rattle.std.specs.declared.vec.Vec.{Vec}
 use Rattle.std.specs.declared.alloc.Global.{Global}
 use Rattle.refusal_reasons.specs.Reasons.{IfAny, ReadFirst}
 
-module _ {X F : Type 0} (r : Result X F) (Here : List ℕ → Type 0) (Behind : X → List ℕ → Type 0) (lines : List ℕ) where
+module _ {X F : Type 0} (r : Result X F) (Here : List ℕ → Type 0) (Behind : X → List ℕ → Type 0) (written : List ℕ) where
   -- what is behind one that is read
-  pub behind_read : (x : X) → r ≡ Ok x → Behind x lines → ReadFirst r Here Behind lines
-  behind_read x is told = subst (λ got. ReadFirst got Here Behind lines) (sym is) told
+  pub behind_read : (x : X) → r ≡ Ok x → Behind x written → ReadFirst r Here Behind written
+  behind_read x is told = subst (λ got. ReadFirst got Here Behind written) (sym is) told
 
   -- or the one that isn't
-  pub unread_here : (fault : F) → r ≡ Err fault → Here lines → ReadFirst r Here Behind lines
-  unread_here fault is told = subst (λ got. ReadFirst got Here Behind lines) (sym is) told
+  pub unread_here : (fault : F) → r ≡ Err fault → Here written → ReadFirst r Here Behind written
+  unread_here fault is told = subst (λ got. ReadFirst got Here Behind written) (sym is) told
 
--- the lines of a text, or none
-pub any_lines : (Tells : Option (List ℕ) → Type 0) (found : Option (Vec ℕ Global)) (lines : List ℕ) → Tells (option_map (λ text. text.items) found)
-    → MatchOption found (lines ≡ []) (λ text. lines ≡ text.items) → IfAny Tells lines
-any_lines Tells None lines tells is = inr (is, tells)
-any_lines Tells (Some text) lines tells is = inl (subst (λ ls. Tells (Some ls)) (sym is) tells)
+-- what is written of a text, or nothing
+pub any_written : (Tells : Option (List ℕ) → Type 0) (found : Option (Vec ℕ Global)) (written : List ℕ) → Tells (option_map (λ text. text.items) found)
+    → MatchOption found (written ≡ []) (λ text. written ≡ text.items) → IfAny Tells written
+any_written Tells None written tells is = inr (is, tells)
+any_written Tells (Some text) written tells is = inl (subst (λ ws. Tells (Some ws)) (sym is) tells)

@@ -1,6 +1,6 @@
-//! Why a command refuses, as lines for people: a second look at its texts, made only once something is refused. The first text that isn't
-//! read is explained; where all are read it is the transaction that is refused, or the contract that has no table. The lines stand behind
-//! the line of the refusal, each behind two blanks and ended by a line feed.
+//! Why a command refuses: a second look at its texts, made only once something is refused. The first text that isn't read is explained;
+//! where all are read it is the transaction that is refused, or the contract that has no table. It is written as lines for people, which
+//! stand behind the line of the refusal, each behind two blanks and ended by a line feed; or as members of a JSON object for tools.
 #![tactic(auto)]
 
 mod pieces;
@@ -9,6 +9,7 @@ mod sequences;
 mod source;
 mod texts;
 
+pub use json_members::Spelling;
 pub use second_look::{reasons, table_reasons};
 pub use source::{Behind, Over, Source, Sources, text_if};
 pub use texts::scenario_reasons;

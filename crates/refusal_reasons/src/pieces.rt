@@ -3,11 +3,12 @@ ghost use Rattle.std.specs.Prelude.{◌≡◌, Some, IfOk, IfSome, slice_get};
 ghost use Rattle.refusal_reasons.specs.Reasons.{TellsPiece, TellsPieceOf};
 
 use crate::source::{Source, Sources};
-use crate::texts::text_lines;
+use crate::texts::flat_told;
 use collections::Memory;
 use explanations::MAX_DEPTH;
 use json::Scratch;
 use json_forms::Sort;
+use json_members::Spelling;
 use json_read_names::{JsonFault, json_of};
 use json_tree::JsonValue;
 use part_tokens::beginning_of;
@@ -32,12 +33,13 @@ struct Span {
 }
 
 /// Why the transaction of a number isn't read, from 1 through all texts.
-pub(crate) fn piece_lines(
+pub(crate) fn piece_told(
     alloc: Global,
     sources: Sources<'_>,
     number: u64,
+    spelling: Spelling,
 ) -> Result<Vec<u8>, Memory>
-    ensures { IfOk result (λ lines. TellsPiece sources.entry lines.items) }
+    ensures { IfOk result (λ written. TellsPiece spelling sources.entry written.items) }
 {
     let mut index = usize::try_from(number)
         .unwrap_or(usize::MAX)
@@ -46,7 +48,7 @@ pub(crate) fn piece_lines(
         let layout = layout_of(alloc, sources.texts[at].as_slice())?;
         let count = count_of(layout);
         if index < count {
-            return source_lines(alloc, sources, at, layout, index);
+            return source_told(alloc, sources, at, layout, index, spelling);
         }
         index -= count;
     }
@@ -64,14 +66,15 @@ fn path_at<'a>(paths: &[&'a str], at: usize) -> Option<&'a str>
 }
 
 // Why the transaction at an index of a text isn't read.
-fn source_lines(
+fn source_told(
     alloc: Global,
     sources: Sources<'_>,
     at: usize,
     layout: Layout,
     index: usize,
+    spelling: Spelling,
 ) -> Result<Vec<u8>, Memory>
-    ensures { IfOk result (λ lines. TellsPiece sources.entry lines.items) }
+    ensures { IfOk result (λ written. TellsPiece spelling sources.entry written.items) }
 {
     let Some(path) = path_at(sources.paths, at) else {
         return Err(AllocError);
@@ -79,7 +82,7 @@ fn source_lines(
     let Some(text) = sources.texts.get(at) else {
         return Err(AllocError);
     };
-    placed_lines(alloc, path, text.as_slice(), layout, index)
+    placed_told(alloc, path, text.as_slice(), layout, index, spelling)
 }
 
 fn layout_of(alloc: Global, text: &[u8]) -> Result<Layout, Memory> {
@@ -103,21 +106,22 @@ fn count_of(layout: Layout) -> usize {
 }
 
 // .. under a path.
-fn placed_lines(
+fn placed_told(
     alloc: Global,
     path: &str,
     text: &[u8],
     layout: Layout,
     index: usize,
+    spelling: Spelling,
 ) -> Result<Vec<u8>, Memory>
-    ensures { IfOk result (λ lines. TellsPieceOf path.now lines.items) }
+    ensures { IfOk result (λ written. TellsPieceOf spelling path.now written.items) }
 {
     match span_of(alloc, text, layout, index)? {
         Some(span) => {
             let piece = piece_of(alloc, text, span)?;
-            piece_text_lines(alloc, path, piece.as_slice())
+            piece_text_told(alloc, path, piece.as_slice(), spelling)
         }
-        None => piece_text_lines(alloc, path, text),
+        None => piece_text_told(alloc, path, text, spelling),
     }
 }
 
@@ -135,10 +139,15 @@ fn span_of(
     }
 }
 
-fn piece_text_lines(alloc: Global, path: &str, text: &[u8]) -> Result<Vec<u8>, Memory>
-    ensures { IfOk result (λ lines. TellsPieceOf path.now lines.items) }
+fn piece_text_told(
+    alloc: Global,
+    path: &str,
+    text: &[u8],
+    spelling: Spelling,
+) -> Result<Vec<u8>, Memory>
+    ensures { IfOk result (λ written. TellsPieceOf spelling path.now written.items) }
 {
-    text_lines(alloc, Source { path, text }, Sort::Transaction)
+    flat_told(alloc, Source { path, text }, Sort::Transaction, spelling)
 }
 
 // ---- items of a list

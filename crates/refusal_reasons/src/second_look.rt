@@ -4,35 +4,39 @@ ghost use Rattle.contract.specs.Tree.{contract_tree};
 ghost use Rattle.semantics.specs.Walk.{standing};
 ghost use Rattle.refusal_reasons.specs.Reasons.{Tells, TellsFrom, TellsIfRefused, TellsNext, TellsOfTable, TellsOne, TellsState, TellsTable, numbers_of};
 
-use crate::sequences::sequence_lines;
+use crate::sequences::sequence_told;
 use crate::source::{Behind, Source, text_if};
-use crate::texts::text_lines;
+use crate::texts::{contract_told, flat_told};
 use collections::Memory;
 use contract::{Contract, State, Transaction};
-use contract_json::{JsonFault, read_contract, read_transaction};
+use contract_json::{JsonFault, read_contract_within, read_transaction};
 use json_forms::{Numbers, Sort};
-use marlowe_run::{beside_dropped, read_start};
+use json_members::Spelling;
+use marlowe_run::{Readable, beside_dropped, read_start};
 use std::alloc::{AllocError, Global};
 
-/// Why a command refuses that reads a contract and then a state, if one is given, whose numbers may be `texts`, and has this behind
-/// them. `Memory` where memory was refused; no lines only where nothing is refused, or of too many transactions.
+/// Why a command refuses that reads a contract and then a state, if one is given, and has this behind them; `readable` tells which texts
+/// are read. It is written in lines or members. `Memory` where memory was refused; there are no bytes only where nothing is refused, or of
+/// too many transactions.
 #[tactic(auto, using(crate::proofs::ReadingLemmas::behind_read, crate::proofs::ReadingLemmas::unread_here))]
 pub fn reasons(
     alloc: Global,
     contract: Source<'_>,
     state: Option<Source<'_>>,
-    texts: bool,
+    readable: Readable,
     behind: Behind<'_>,
+    spelling: Spelling,
 ) -> Result<Vec<u8>, Memory>
-    ensures { IfOk result (λ lines. Tells contract.entry state.entry texts behind.entry lines.items) }
+    ensures { IfOk result (λ written. Tells contract.entry state.entry readable behind.entry spelling written.items) }
 {
-    match read_contract(alloc, contract.text) {
+    match read_contract_within(alloc, contract.text, readable.depth) {
         Ok(whole) => {
-            let lines = from_state(alloc, &whole, state, texts, behind);
-            beside_dropped(whole, lines)
+            let texts = readable.text_numbers;
+            let written = from_state(alloc, &whole, state, texts, behind, spelling);
+            beside_dropped(whole, written)
         }
         Err(JsonFault::Memory) => Err(AllocError),
-        Err(_) => text_lines(alloc, contract, Sort::Contract),
+        Err(_) => contract_told(alloc, contract, readable.depth, spelling),
     }
 }
 
@@ -44,25 +48,32 @@ fn from_state(
     state: Option<Source<'_>>,
     texts: bool,
     behind: Behind<'_>,
+    spelling: Spelling,
 ) -> Result<Vec<u8>, Memory>
-    ensures { IfOk result (λ lines. TellsFrom state.entry texts behind.entry (contract_tree whole.now) lines.items) }
+    ensures { IfOk result (λ written.
+        TellsFrom spelling state.entry texts behind.entry (contract_tree whole.now) written.items) }
 {
     match read_start(alloc, text_if(state), texts) {
         Ok(start) => {
-            let lines = from_behind(alloc, whole, &start, behind);
-            beside_dropped(start, lines)
+            let written = from_behind(alloc, whole, &start, behind, spelling);
+            beside_dropped(start, written)
         }
         Err(JsonFault::Memory) => Err(AllocError),
-        Err(_) => state_lines(alloc, state, texts),
+        Err(_) => state_told(alloc, state, texts, spelling),
     }
 }
 
 // Why a state isn't read.
-fn state_lines(alloc: Global, state: Option<Source<'_>>, texts: bool) -> Result<Vec<u8>, Memory>
-    ensures { IfOk result (λ lines. TellsState state.entry texts lines.items) }
+fn state_told(
+    alloc: Global,
+    state: Option<Source<'_>>,
+    texts: bool,
+    spelling: Spelling,
+) -> Result<Vec<u8>, Memory>
+    ensures { IfOk result (λ written. TellsState spelling state.entry texts written.items) }
 {
     match state {
-        Some(source) => text_lines(alloc, source, Sort::State(numbers_of(texts))),
+        Some(source) => flat_told(alloc, source, Sort::State(numbers_of(texts)), spelling),
         None => Err(AllocError),
     }
 }
@@ -83,14 +94,23 @@ fn from_behind(
     whole: &Contract,
     start: &State,
     behind: Behind<'_>,
+    spelling: Spelling,
 ) -> Result<Vec<u8>, Memory>
-    ensures { IfOk result (λ lines. TellsNext (standing start.now (contract_tree whole.now)) behind.entry lines.items) }
+    ensures { IfOk result (λ written.
+        TellsNext spelling (standing start.now (contract_tree whole.now)) behind.entry written.items) }
 {
     match behind {
         Behind::Nothing => Ok(Vec::new(alloc)),
-        Behind::One(source) => from_one(alloc, whole, start, source),
-        Behind::Many(sources) => sequence_lines(alloc, whole, start, sources, None),
-        Behind::Next(sources, over) => sequence_lines(alloc, whole, start, sources, Some(over)),
+        Behind::One(source) => from_one(alloc, whole, start, source, spelling),
+        Behind::Many(sources) => sequence_told(alloc, whole, start, sources, None, spelling),
+        Behind::Next(sources, over) => sequence_told(
+            alloc,
+            whole,
+            start,
+            sources,
+            Some(over),
+            spelling,
+        ),
     }
 }
 
@@ -101,36 +121,39 @@ fn from_one(
     whole: &Contract,
     start: &State,
     source: Source<'_>,
+    spelling: Spelling,
 ) -> Result<Vec<u8>, Memory>
-    ensures { IfOk result (λ lines. TellsOne (standing start.now (contract_tree whole.now)) source.entry lines.items) }
+    ensures { IfOk result (λ written.
+        TellsOne spelling (standing start.now (contract_tree whole.now)) source.entry written.items) }
 {
     match read_transaction(alloc, source.text) {
         Ok(transaction) => {
-            let lines = transaction_lines(alloc, whole, start, &transaction);
-            beside_dropped(transaction, lines)
+            let written = transaction_told(alloc, whole, start, &transaction, spelling);
+            beside_dropped(transaction, written)
         }
         Err(JsonFault::Memory) => Err(AllocError),
-        Err(_) => text_lines(alloc, source, Sort::Transaction),
+        Err(_) => flat_told(alloc, source, Sort::Transaction, spelling),
     }
 }
 
 // Why a transaction is refused, if it is.
-#[tactic(auto, using(crate::proofs::ReadingLemmas::any_lines))]
-fn transaction_lines(
+#[tactic(auto, using(crate::proofs::ReadingLemmas::any_written))]
+fn transaction_told(
     alloc: Global,
     whole: &Contract,
     start: &State,
     transaction: &Transaction,
+    spelling: Spelling,
 ) -> Result<Vec<u8>, Memory>
-    ensures { IfOk result (λ lines. TellsIfRefused (contract_tree whole.now) []
-        (standing start.now (contract_tree whole.now)) transaction.now lines.items) }
+    ensures { IfOk result (λ written. TellsIfRefused spelling (contract_tree whole.now) []
+        (standing start.now (contract_tree whole.now)) transaction.now written.items) }
 {
-    let found = marlowe_explain::explained(alloc, whole, start, transaction)?;
-    Ok(lines_if(alloc, found))
+    let found = marlowe_explain::explained(alloc, whole, start, transaction, spelling)?;
+    Ok(written_if(alloc, found))
 }
 
-/// The lines that there are.
-pub(crate) fn lines_if(alloc: Global, found: Option<Vec<u8>>) -> Vec<u8>
+/// What is written, if something is.
+pub(crate) fn written_if(alloc: Global, found: Option<Vec<u8>>) -> Vec<u8>
     ensures { MatchOption found (result.items ≡ []) (λ text. result.items ≡ text.items) }
 {
     match found {
@@ -139,25 +162,30 @@ pub(crate) fn lines_if(alloc: Global, found: Option<Vec<u8>>) -> Vec<u8>
     }
 }
 
-/// Why `table` refuses a contract, which isn't read or has no table.
+/// Why `table` refuses a contract, which isn't read or has no table. Its lists and objects may nest so deep.
 #[tactic(auto, using(crate::proofs::ReadingLemmas::behind_read, crate::proofs::ReadingLemmas::unread_here))]
-pub fn table_reasons(alloc: Global, contract: Source<'_>) -> Result<Vec<u8>, Memory>
-    ensures { IfOk result (λ lines. TellsOfTable contract.entry lines.items) }
+pub fn table_reasons(
+    alloc: Global,
+    contract: Source<'_>,
+    depth: usize,
+    spelling: Spelling,
+) -> Result<Vec<u8>, Memory>
+    ensures { IfOk result (λ written. TellsOfTable contract.entry depth spelling written.items) }
 {
-    match read_contract(alloc, contract.text) {
+    match read_contract_within(alloc, contract.text, depth) {
         Ok(whole) => {
-            let lines = compile_lines(alloc, &whole);
-            beside_dropped(whole, lines)
+            let written = table_told(alloc, &whole, spelling);
+            beside_dropped(whole, written)
         }
         Err(JsonFault::Memory) => Err(AllocError),
-        Err(_) => text_lines(alloc, contract, Sort::Contract),
+        Err(_) => contract_told(alloc, contract, depth, spelling),
     }
 }
 
-#[tactic(auto, using(crate::proofs::ReadingLemmas::any_lines))]
-fn compile_lines(alloc: Global, whole: &Contract) -> Result<Vec<u8>, Memory>
-    ensures { IfOk result (λ lines. TellsTable (contract_tree whole.now) lines.items) }
+#[tactic(auto, using(crate::proofs::ReadingLemmas::any_written))]
+fn table_told(alloc: Global, whole: &Contract, spelling: Spelling) -> Result<Vec<u8>, Memory>
+    ensures { IfOk result (λ written. TellsTable spelling (contract_tree whole.now) written.items) }
 {
-    let found = explain_tables::explained(alloc, whole)?;
-    Ok(lines_if(alloc, found))
+    let found = explain_tables::explained(alloc, whole, spelling)?;
+    Ok(written_if(alloc, found))
 }

@@ -4,11 +4,12 @@ ghost use Rattle.contract.specs.Tree.{contract_tree};
 ghost use Rattle.semantics.specs.Walk.{standing};
 ghost use Rattle.refusal_reasons.specs.Reasons.{TellsIfRefused, TellsMany, TellsOver, TellsRead, TellsRefused, TellsTransaction, interval_of};
 
-use crate::pieces::piece_lines;
-use crate::second_look::lines_if;
+use crate::pieces::piece_told;
+use crate::second_look::written_if;
 use crate::source::{Over, Sources};
 use collections::{Items, Memory};
 use contract::{Contract, Interval, SemFault, State, Transaction};
+use json_members::Spelling;
 use json_read_transactions::{ReadFault, read_transactions};
 use marlowe_explain::explained_behind;
 use marlowe_run::beside_dropped;
@@ -17,67 +18,74 @@ use trace::{Left, after};
 
 /// Why transactions of texts one after another are refused, or what may come behind them.
 #[tactic(auto, using(crate::proofs::SequenceLemmas::these_told, crate::proofs::SequenceLemmas::these_unread))]
-pub(crate) fn sequence_lines(
+pub(crate) fn sequence_told(
     alloc: Global,
     whole: &Contract,
     start: &State,
     sources: Sources<'_>,
     over: Option<Over>,
+    spelling: Spelling,
 ) -> Result<Vec<u8>, Memory>
-    ensures { IfOk result (λ lines. TellsMany over (standing start.now (contract_tree whole.now)) sources.entry lines.items) }
+    ensures { IfOk result (λ written.
+        TellsMany spelling over (standing start.now (contract_tree whole.now)) sources.entry written.items) }
 {
     match read_transactions(alloc, sources.texts) {
         Ok(transactions) => {
-            let lines = read_lines(alloc, whole, start, transactions.as_slice(), over);
-            beside_dropped(transactions, lines)
+            let list = transactions.as_slice();
+            let written = read_told(alloc, whole, start, list, over, spelling);
+            beside_dropped(transactions, written)
         }
         Err(ReadFault::Memory) => Err(AllocError),
         Err(ReadFault::TooMany) => Ok(Vec::new(alloc)),
-        Err(ReadFault::Text(number, _)) => piece_lines(alloc, sources, number),
+        Err(ReadFault::Text(number, _)) => piece_told(alloc, sources, number, spelling),
     }
 }
 
 // .. once they are read.
 #[tactic(auto, using(crate::proofs::SequenceLemmas::over_told, crate::proofs::SequenceLemmas::read_refused))]
-fn read_lines(
+fn read_told(
     alloc: Global,
     whole: &Contract,
     start: &State,
     transactions: &[Transaction],
     over: Option<Over>,
+    spelling: Spelling,
 ) -> Result<Vec<u8>, Memory>
-    ensures { IfOk result (λ lines. TellsRead over (standing start.now (contract_tree whole.now)) transactions.now lines.items) }
+    ensures { IfOk result (λ written.
+        TellsRead spelling over (standing start.now (contract_tree whole.now)) transactions.now written.items) }
 {
     match after(alloc, whole, start, transactions) {
         Ok(left) => {
-            let lines = over_lines(alloc, whole, &left, over);
-            beside_dropped(left, lines)
+            let written = over_told(alloc, whole, &left, over, spelling);
+            beside_dropped(left, written)
         }
         Err(refused) => match refused.fault {
             SemFault::Memory => Err(AllocError),
-            _ => refused_lines(alloc, whole, start, transactions, refused.index),
+            _ => refused_told(alloc, whole, start, transactions, refused.index, spelling),
         },
     }
 }
 
 // The transaction at an index, from where those before it lead.
 #[tactic(auto, using(crate::proofs::SequenceLemmas::refused_told))]
-fn refused_lines(
+fn refused_told(
     alloc: Global,
     whole: &Contract,
     start: &State,
     transactions: &[Transaction],
     index: usize,
+    spelling: Spelling,
 ) -> Result<Vec<u8>, Memory>
-    ensures { IfOk result (λ lines. TellsRefused (standing start.now (contract_tree whole.now)) transactions.now lines.items) }
+    ensures { IfOk result (λ written.
+        TellsRefused spelling (standing start.now (contract_tree whole.now)) transactions.now written.items) }
 {
     let Some(transaction) = transaction_at(transactions, index) else {
         return Err(AllocError);
     };
     match after(alloc, whole, start, &transactions[..index]) {
         Ok(left) => {
-            let lines = left_lines(alloc, whole, &left, transaction);
-            beside_dropped(left, lines)
+            let written = left_told(alloc, whole, &left, transaction, spelling);
+            beside_dropped(left, written)
         }
         Err(_) => Err(AllocError),
     }
@@ -94,13 +102,14 @@ fn transaction_at(transactions: &[Transaction], index: usize) -> Option<&Transac
 }
 
 // What may come over an interval, if one is asked about: a transaction without inputs.
-fn over_lines(
+fn over_told(
     alloc: Global,
     whole: &Contract,
     left: &Left<'_>,
     over: Option<Over>,
+    spelling: Spelling,
 ) -> Result<Vec<u8>, Memory>
-    ensures { IfOk result (λ lines. TellsOver (contract_tree whole.now) over lines.items left.now.path
+    ensures { IfOk result (λ written. TellsOver spelling (contract_tree whole.now) over written.items left.now.path
         (standing left.now.state (contract_tree left.now.contract.now))) }
 {
     let Some(over) = over else {
@@ -110,8 +119,8 @@ fn over_lines(
         interval: interval_of(over, &left.state),
         inputs: Items::new(alloc),
     };
-    let lines = lines_if_refused(alloc, whole, left, &transaction);
-    beside_dropped(transaction, lines)
+    let written = told_if_refused(alloc, whole, left, &transaction, spelling);
+    beside_dropped(transaction, written)
 }
 
 fn interval_of(over: Over, state: &State) -> Interval
@@ -123,32 +132,34 @@ fn interval_of(over: Over, state: &State) -> Interval
 }
 
 // Why a transaction is refused where others have led.
-fn left_lines(
+fn left_told(
     alloc: Global,
     whole: &Contract,
     left: &Left<'_>,
     transaction: &Transaction,
+    spelling: Spelling,
 ) -> Result<Vec<u8>, Memory>
-    ensures { IfOk result (λ lines. TellsTransaction (contract_tree whole.now) left.now.path
-        (standing left.now.state (contract_tree left.now.contract.now)) transaction.now lines.items) }
+    ensures { IfOk result (λ written. TellsTransaction spelling (contract_tree whole.now) left.now.path
+        (standing left.now.state (contract_tree left.now.contract.now)) transaction.now written.items) }
 {
-    match explained_behind(alloc, whole, left, transaction)? {
+    match explained_behind(alloc, whole, left, transaction, spelling)? {
         Some(text) => Ok(text),
         None => Err(AllocError),
     }
 }
 
 // .. if it is.
-#[tactic(auto, using(crate::proofs::ReadingLemmas::any_lines))]
-fn lines_if_refused(
+#[tactic(auto, using(crate::proofs::ReadingLemmas::any_written))]
+fn told_if_refused(
     alloc: Global,
     whole: &Contract,
     left: &Left<'_>,
     transaction: &Transaction,
+    spelling: Spelling,
 ) -> Result<Vec<u8>, Memory>
-    ensures { IfOk result (λ lines. TellsIfRefused (contract_tree whole.now) left.now.path
-        (standing left.now.state (contract_tree left.now.contract.now)) transaction.now lines.items) }
+    ensures { IfOk result (λ written. TellsIfRefused spelling (contract_tree whole.now) left.now.path
+        (standing left.now.state (contract_tree left.now.contract.now)) transaction.now written.items) }
 {
-    let found = explained_behind(alloc, whole, left, transaction)?;
-    Ok(lines_if(alloc, found))
+    let found = explained_behind(alloc, whole, left, transaction, spelling)?;
+    Ok(written_if(alloc, found))
 }

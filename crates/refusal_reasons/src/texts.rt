@@ -1,23 +1,55 @@
 //! One text that isn't read.
 ghost use Rattle.std.specs.Prelude.{IfOk};
-ghost use Rattle.refusal_reasons.specs.Reasons.{TellsScenario, TellsText};
+ghost use Rattle.refusal_reasons.specs.Reasons.{TellsContract, TellsFlat, TellsScenario};
 
 use crate::source::Source;
 use collections::Memory;
-use explanations::{explained, explained_scenario};
+use explanations::{How, explained, explained_scenario};
 use json_forms::Sort;
+use json_members::Spelling;
 use std::alloc::Global;
 
-/// Why a text isn't read as one of a sort.
-pub(crate) fn text_lines(alloc: Global, source: Source<'_>, sort: Sort) -> Result<Vec<u8>, Memory>
-    ensures { IfOk result (λ lines. TellsText source.entry.path.now source.entry.text.now sort lines.items) }
+// How deep lists and objects may nest in a state or a transaction.
+const FLAT: usize = 127;
+
+/// Why a text isn't read as a state or a transaction.
+pub(crate) fn flat_told(
+    alloc: Global,
+    source: Source<'_>,
+    sort: Sort,
+    spelling: Spelling,
+) -> Result<Vec<u8>, Memory>
+    ensures { IfOk result (λ written. TellsFlat spelling source.entry sort written.items) }
 {
-    explained(alloc, source.path, source.text, sort)
+    let how = How {
+        depth: FLAT,
+        spelling,
+    };
+    explained(alloc, source.path, source.text, sort, how)
 }
 
-/// Why `play` doesn't read a scenario; where it is read there are no lines.
-pub fn scenario_reasons(alloc: Global, scenario: Source<'_>) -> Result<Vec<u8>, Memory>
-    ensures { IfOk result (λ lines. TellsScenario scenario.entry lines.items) }
+/// Why a text isn't read as a contract, whose lists and objects may nest so deep.
+pub(crate) fn contract_told(
+    alloc: Global,
+    source: Source<'_>,
+    depth: usize,
+    spelling: Spelling,
+) -> Result<Vec<u8>, Memory>
+    ensures { IfOk result (λ written. TellsContract depth spelling source.entry written.items) }
 {
-    explained_scenario(alloc, scenario.path, scenario.text)
+    let how = How { depth, spelling };
+    explained(alloc, source.path, source.text, Sort::Contract, how)
+}
+
+/// Why `play` doesn't read a scenario, whose lists and objects may nest so deep; where it is read there are no bytes.
+pub fn scenario_reasons(
+    alloc: Global,
+    scenario: Source<'_>,
+    depth: usize,
+    spelling: Spelling,
+) -> Result<Vec<u8>, Memory>
+    ensures { IfOk result (λ written. TellsScenario depth spelling scenario.entry written.items) }
+{
+    let how = How { depth, spelling };
+    explained_scenario(alloc, scenario.path, scenario.text, how)
 }

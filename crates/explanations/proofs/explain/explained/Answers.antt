@@ -3,4 +3,4 @@ use Rattle.explanations.proofs.ExplainLemmas.{read_is_utf8}
 use Rattle.explanations.proofs.explain.explained.Goals as goal
 
 pub told_json-requires : goal.told_json-requires
-told_json-requires c = read_is_utf8 c.args.text.now (view c.in-Ok.json) c.in-Ok.ensures
+told_json-requires c = read_is_utf8 c.args.how.depth c.args.text.now (view c.in-Ok.json) c.in-Ok.ensures

@@ -8,5 +8,5 @@ pub returns-in-Some : goal.returns-in-Some
 returns-in-Some c =
     let stops = rw c.in-Some.is at c.in_ok-found.ensures in
     IfOk-weaker c.told_stop.result _ _
-    (λ lines told. place_told c.args.file.now c.args.text.now c.args.sort (view c.args.json.now) (place_of c.in-Some.stop c.in-Some.part.now) lines.items stops told)
+    (λ written told. place_told c.args.how c.args.file.now c.args.text.now c.args.sort (view c.args.json.now) (place_of c.in-Some.stop c.in-Some.part.now) written.items stops told)
     c.told_stop.ensures

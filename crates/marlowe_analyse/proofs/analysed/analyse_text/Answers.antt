@@ -10,10 +10,10 @@ returns-in-Ok c =
     let is = c.in-Ok.ensures.reading in
     let r = c.analysed_from-told.result in
     rw c.beside_dropped.ensures (record {
-      told = all_told_so c.args.reader c.args.texts text start given is r c.analysed_from-told.ensures.told;
-      clear = is_clear_so c.args.reader c.args.texts text start given is r c.analysed_from-told.ensures.told;
-      read = read_as_started c.args.texts text start given r is c.analysed_from-told.ensures.read;
+      told = all_told_so c.args.reader c.args.readable text start given is r c.analysed_from-told.ensures.told;
+      clear = is_clear_so c.args.reader c.args.readable text start given is r c.analysed_from-told.ensures.told;
+      read = read_as_started c.args.readable text start given r is c.analysed_from-told.ensures.read;
     })
 
 pub returns-in-Err-clause-read : goal.returns-in-Err-clause-read
-returns-in-Err-clause-read c = not_read c.args.texts c.args.contract.now (option_map (λ t. t.now) c.args.state) c.in-Err.fault c.of_contract.result c.in-Err.ensures.reading c.of_contract.ensures
+returns-in-Err-clause-read c = not_read c.args.readable c.args.contract.now (option_map (λ t. t.now) c.args.state) c.in-Err.fault c.of_contract.result c.in-Err.ensures.reading c.of_contract.ensures

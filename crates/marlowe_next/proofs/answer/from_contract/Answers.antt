@@ -2,7 +2,7 @@ use Rattle.std.proofs.Common.{refl, ap}
 use Rattle.std.specs.Prelude.{map, option_map}
 use Rattle.contract.specs.Tree.{contract_tree}
 use Rattle.json_read_names.specs.declared.fault.JsonFault.TheVariants as json
-use Rattle.json_read_names.specs.ReadsText.{of_text}
+use Rattle.json_read_names.specs.ReadsText.{of_text_within}
 use Rattle.json_read_contracts.specs.ReadsContract.{contract}
 use Rattle.marlowe_refusals.specs.Faults.{contract_fault}
 use Rattle.marlowe_refusals.specs.declared.trace_fault.TraceFault.TheVariants as trace
@@ -15,12 +15,12 @@ returns-in-Ok c =
     let start = option_map (λ text. text.now) c.args.state in
     let after = map (λ text. text.items) c.args.after.now in
     rw c.beside_dropped.ensures
-    (reads_on c.args.asked (λ f. trace.Run (contract_fault f)) (λ given. reached_from c.args.asked (contract_tree given) start after) (of_text contract c.args.contract.now) c.in-Ok.whole c.from_state-text.result c.in-Ok.ensures.reading
+    (reads_on c.args.asked (λ f. trace.Run (contract_fault f)) (λ given. reached_from c.args.asked (contract_tree given) start after) (of_text_within c.args.asked.readable.depth contract c.args.contract.now) c.in-Ok.whole c.from_state-text.result c.in-Ok.ensures.reading
     c.from_state-text.ensures)
 
 pub returns-in-Err : goal.returns-in-Err
 returns-in-Err c =
     let start = option_map (λ text. text.now) c.args.state in
     let after = map (λ text. text.items) c.args.after.now in
-    reads_badly c.args.asked json.Memory (λ f. trace.Run (contract_fault f)) (λ given. reached_from c.args.asked (contract_tree given) start after) (of_text contract c.args.contract.now) c.in-Err.fault (trace.Run c.of_contract.result) refl
+    reads_badly c.args.asked json.Memory (λ f. trace.Run (contract_fault f)) (λ given. reached_from c.args.asked (contract_tree given) start after) (of_text_within c.args.asked.readable.depth contract c.args.contract.now) c.in-Err.fault (trace.Run c.of_contract.result) refl
     c.in-Err.ensures.reading (ap trace.Run c.of_contract.ensures)

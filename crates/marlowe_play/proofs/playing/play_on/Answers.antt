@@ -11,7 +11,7 @@ use Rattle.parties.specs.declared.left_out.LeftOut.{LeftOut}
 use Rattle.hub.specs.Session.{Opened}
 use Rattle.ledger_spec.specs.Replay.{Course}
 use Rattle.play_setup.specs.SetUp.{object_of}
-use Rattle.marlowe_play.specs.Played.{IsTold}
+use Rattle.marlowe_play.specs.Played.{IsTold, wanted, well_by}
 use Rattle.marlowe_play.specs.PlayedSupport.{AreLines}
 use Rattle.marlowe_play.proofs.PlayingLemmas.{how_many, told_of}
 use Rattle.marlowe_play.proofs.playing.play_on.Goals as goal
@@ -48,10 +48,13 @@ returns-clause-played g c =
     let start = c.close-closed.ensures.start in
     let first = start.0 ∙ (ap (λ (o : Opened). o.genesis) (sym c.requires.session) ∙ c.requires.genesis) in
     let at = start.1 ∙ (ap (λ (o : Opened). o.first_tick) (sym c.requires.session) ∙ c.requires.tick) in
-    let told = c.in_ok-text.ensures in
+    let told = c.in_ok-played.ensures in
+    let w = wanted c.args.asked.face c.args.asked.strict (map (λ s. s.now) c.args.asked.kept_open.now) in
     let left = map (λ l. l.items) c.in_ok-stage.left.items in
-    let text = c.in_ok-text.text.items in
-    let of_left = subst (λ (ls : List (Vec LeftOut Global)). IsTold c.args.how.explain s c.chain.result.now outputs (map (λ l. l.items) ls) told.0 text) c.deref.ensures.value told.1 in
-    let is = subst (λ (k : Course). IsTold c.args.how.explain s k outputs left told.0 text) c.chain.ensures of_left in
-    let threads = subst (λ (k : Course). AreLines k objects s.threads outputs told.0) c.chain.ensures told.2 in
-    told_of s c.args.how.explain closed objects outputs seats left told.0 text c.in_ok-stage.ensures.contracts first at c.close-closed.ensures.legal c.close-closed.ensures.heard c.close-closed.ensures.count c.in_ok-stage.ensures.seats threads is
+    let p = c.in_ok-played.played in
+    let of_left = subst (λ (ls : List (Vec LeftOut Global)). IsTold c.args.asked.face s c.chain.result.now outputs (map (λ l. l.items) ls) told.0 p.text.items) c.deref.ensures.value told.1 in
+    let well_left = subst (λ (ls : List (Vec LeftOut Global)). p.well ≡ well_by w s (map (λ l. l.items) ls) c.chain.result.now.entries told.0) c.deref.ensures.value told.2 in
+    let is = subst (λ (k : Course). IsTold c.args.asked.face s k outputs left told.0 p.text.items) c.chain.ensures of_left in
+    let well = subst (λ (k : Course). p.well ≡ well_by w s left k.entries told.0) c.chain.ensures well_left in
+    let threads = subst (λ (k : Course). AreLines k objects s.threads outputs told.0) c.chain.ensures told.3 in
+    told_of s w closed objects outputs seats left told.0 p.text.items p.well c.in_ok-stage.ensures.contracts first at c.close-closed.ensures.legal c.close-closed.ensures.heard c.close-closed.ensures.count c.in_ok-stage.ensures.seats threads is well

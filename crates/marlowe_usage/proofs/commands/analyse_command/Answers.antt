@@ -1,6 +1,6 @@
 use Rattle.std.proofs.Common.{codes}
 use Rattle.clap.specs.Words.{new_app, with_rule}
-use Rattle.marlowe_usage.specs.Lines.{given, optional, flag, text_numbers, explain}
+use Rattle.marlowe_usage.specs.Lines.{given, optional, flag, json, depth, text_numbers, explain}
 use Rattle.marlowe_usage.proofs.commands.analyse_command.Goals as goal
 
 pub returns : goal.returns
@@ -11,12 +11,14 @@ returns c =
     let one = with_rule none (given (codes "CONTRACT")) in
     let with_two = c.with-2.ensures one (optional (codes "STATE")) with_one c.optional.ensures in
     let two = with_rule one (optional (codes "STATE")) in
-    let with_three = c.with-3.ensures two (flag (codes "json")) with_two c.flag.ensures in
-    let three = with_rule two (flag (codes "json")) in
-    let with_four = c.with-4.ensures three (flag (codes "no-runs")) with_three c.flag-2.ensures in
+    let with_three = c.with-3.ensures two json with_two c.json.ensures in
+    let three = with_rule two json in
+    let with_four = c.with-4.ensures three (flag (codes "no-runs")) with_three c.flag.ensures in
     let four = with_rule three (flag (codes "no-runs")) in
-    let with_five = c.with-5.ensures four (flag (codes "strict")) with_four c.flag-3.ensures in
+    let with_five = c.with-5.ensures four (flag (codes "strict")) with_four c.flag-2.ensures in
     let five = with_rule four (flag (codes "strict")) in
-    let with_six = c.with-6.ensures five text_numbers with_five c.text_numbers.ensures in
-    let six = with_rule five text_numbers in
-    c.with-7.ensures six explain with_six c.explain.ensures
+    let with_six = c.with-6.ensures five depth with_five c.depth.ensures in
+    let six = with_rule five depth in
+    let with_seven = c.with-7.ensures six text_numbers with_six c.text_numbers.ensures in
+    let seven = with_rule six text_numbers in
+    c.with-8.ensures seven explain with_seven c.explain.ensures

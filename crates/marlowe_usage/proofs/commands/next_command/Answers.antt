@@ -1,6 +1,6 @@
 use Rattle.std.proofs.Common.{codes}
 use Rattle.clap.specs.Words.{new_app, with_rule}
-use Rattle.marlowe_usage.specs.Lines.{given, optional, time, options, flag, text_numbers, explain}
+use Rattle.marlowe_usage.specs.Lines.{given, optional, time, options, json, depth, text_numbers, explain}
 use Rattle.marlowe_usage.proofs.commands.next_command.Goals as goal
 
 pub returns : goal.returns
@@ -17,8 +17,10 @@ returns c =
     let four = with_rule three (time (codes "to")) in
     let with_five = c.with-5.ensures four (options (codes "after")) with_four c.options.ensures in
     let five = with_rule four (options (codes "after")) in
-    let with_six = c.with-6.ensures five (flag (codes "json")) with_five c.flag.ensures in
-    let six = with_rule five (flag (codes "json")) in
-    let with_seven = c.with-7.ensures six text_numbers with_six c.text_numbers.ensures in
-    let seven = with_rule six text_numbers in
-    c.with-8.ensures seven explain with_seven c.explain.ensures
+    let with_six = c.with-6.ensures five json with_five c.json.ensures in
+    let six = with_rule five json in
+    let with_seven = c.with-7.ensures six depth with_six c.depth.ensures in
+    let seven = with_rule six depth in
+    let with_eight = c.with-8.ensures seven text_numbers with_seven c.text_numbers.ensures in
+    let eight = with_rule seven text_numbers in
+    c.with-9.ensures eight explain with_eight c.explain.ensures

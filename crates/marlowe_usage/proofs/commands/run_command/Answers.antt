@@ -1,6 +1,6 @@
 use Rattle.std.proofs.Common.{codes}
 use Rattle.clap.specs.Words.{new_app, with_rule}
-use Rattle.marlowe_usage.specs.Lines.{given, text_numbers, explain}
+use Rattle.marlowe_usage.specs.Lines.{given, json, depth, text_numbers, explain}
 use Rattle.marlowe_usage.proofs.commands.run_command.Goals as goal
 
 pub returns : goal.returns
@@ -13,6 +13,10 @@ returns c =
     let two = with_rule one (given (codes "STATE")) in
     let with_three = c.with-3.ensures two (given (codes "TX")) with_two c.given-2.ensures in
     let three = with_rule two (given (codes "TX")) in
-    let with_four = c.with-4.ensures three text_numbers with_three c.text_numbers.ensures in
-    let four = with_rule three text_numbers in
-    c.with-5.ensures four explain with_four c.explain.ensures
+    let with_four = c.with-4.ensures three json with_three c.json.ensures in
+    let four = with_rule three json in
+    let with_five = c.with-5.ensures four depth with_four c.depth.ensures in
+    let five = with_rule four depth in
+    let with_six = c.with-6.ensures five text_numbers with_five c.text_numbers.ensures in
+    let six = with_rule five text_numbers in
+    c.with-7.ensures six explain with_six c.explain.ensures

@@ -1,6 +1,6 @@
 use Rattle.std.proofs.Common.{codes}
 use Rattle.clap.specs.Words.{new_app, with_rule}
-use Rattle.marlowe_usage.specs.Lines.{given, several, option, flag, text_numbers, explain}
+use Rattle.marlowe_usage.specs.Lines.{given, several, option, flag, json, depth, text_numbers, explain}
 use Rattle.marlowe_usage.proofs.commands.trace_command.Goals as goal
 
 pub returns : goal.returns
@@ -15,6 +15,10 @@ returns c =
     let three = with_rule two (option (codes "state")) in
     let with_four = c.with-4.ensures three (flag (codes "last")) with_three c.flag.ensures in
     let four = with_rule three (flag (codes "last")) in
-    let with_five = c.with-5.ensures four text_numbers with_four c.text_numbers.ensures in
-    let five = with_rule four text_numbers in
-    c.with-6.ensures five explain with_five c.explain.ensures
+    let with_five = c.with-5.ensures four json with_four c.json.ensures in
+    let five = with_rule four json in
+    let with_six = c.with-6.ensures five depth with_five c.depth.ensures in
+    let six = with_rule five depth in
+    let with_seven = c.with-7.ensures six text_numbers with_six c.text_numbers.ensures in
+    let seven = with_rule six text_numbers in
+    c.with-8.ensures seven explain with_seven c.explain.ensures

@@ -1,0 +1,161 @@
+#!/usr/bin/env python3
+"""Asks each command of the deepest texts of each sort, within a stack of 8 MiB, and finds how much stack each needs.
+
+A text of each sort nests as deep as is asked: operations on values and observations, on either side, and each form of contract that has another one
+inside. It is as long as a text may be, at most. What is answered isn't compared, only that the program answers: a status from 0 to 4, and no signal.
+
+Needs    a program `marlowe`: (cd crates/marlowe && rt run -- --version), or one that tools/marlowe compiled without proofs, which takes fifteen times as
+         much stack
+Usage    checks/depth.py [PROGRAM] [--levels N] [--stack KIB] [--sort NAME] [--least]
+         N is 4,000, and KIB 8,192; with --sort one sort alone; with --least also the least stack that does, of 64 KiB, 128 KiB, ..
+Expect   a line for each sort and command, with the status and the seconds, then `all answered` and status 0; a few minutes
+Else     `no answer` behind each that ended by a signal, and status 1
+"""
+import argparse
+import os
+import resource
+import subprocess
+import sys
+import tempfile
+import time
+
+TOP = os.path.join(os.path.dirname(os.path.abspath(__file__)), "..")
+ADA = '{"currency_symbol":"","token_name":""}'
+A = '{"role_token":"a"}'
+LONGEST = 1_048_576
+PAY = f'{{"pay":1,"token":{ADA},"from_account":{A},"to":{{"%s":{A}}},"then":'
+END = '}],"timeout":100,"timeout_continuation":"close"}'
+DEPOSIT = f'{{"input_from_party":{A},"that_deposits":1,"of_token":{ADA},"into_account":{A}}}'
+CHOICE = f'{{"for_choice_id":{{"choice_name":"x","choice_owner":{A}}},"input_that_chooses_num":1}}'
+CHOOSES = f'{{"for_choice":{{"choice_name":"x","choice_owner":{A}}},"choose_between":[{{"from":0,"to":1}}]}}'
+DEPOSITS = f'{{"party":{A},"deposits":1,"of_token":{ADA},"into_account":{A}}}'
+
+# the name, what stands before all levels, what opens a level, what is inside, what closes a level, what stands behind all, the input of a level
+SORTS = [
+    ("not", '{"assert":', '{"not":', "true", "}", ',"then":"close"}', None),
+    ("both, the first", '{"assert":', '{"both":', "true", ',"and":true}', ',"then":"close"}', None),
+    ("either, the second", '{"assert":', '{"either":false,"or":', "true", "}", ',"then":"close"}', None),
+    ("add, the first", '{"let":"x","be":', '{"add":', "1", ',"and":1}', ',"then":"close"}', None),
+    ("add, the second", '{"let":"x","be":', '{"add":1,"and":', "1", "}", ',"then":"close"}', None),
+    ("negate", '{"let":"x","be":', '{"negate":', "1", "}", ',"then":"close"}', None),
+    ("divide", '{"let":"x","be":', '{"divide":', "1", ',"by":1}', ',"then":"close"}', None),
+    ("if, of values", '{"let":"x","be":', '{"if":true,"then":', "1", ',"else":2}', ',"then":"close"}', None),
+    ("pay to an account", "", PAY % "account", '"close"', "}", "", None),
+    ("pay to a party", "", PAY % "party", '"close"', "}", "", None),
+    ("let", "", '{"let":"x","be":1,"then":', '"close"', "}", "", None),
+    ("assert", "", '{"assert":true,"then":', '"close"', "}", "", None),
+    ("if, then", "", '{"if":true,"then":', '"close"', ',"else":"close"}', "", None),
+    ("if, else", "", '{"if":false,"then":"close","else":', '"close"', "}", "", None),
+    ("when, after its timeout", "", '{"when":[],"timeout":1,"timeout_continuation":', '"close"', "}", "", None),
+    ("when, before its timeout", "", '{"when":[],"timeout":100,"timeout_continuation":', '"close"', "}", "", None),
+    ("when, a notify", "", '{"when":[{"case":{"notify_if":true},"then":', '"close"', END, "", '"input_notify"'),
+    ("when, a deposit", "", f'{{"when":[{{"case":{DEPOSITS},"then":', '"close"', END, "", DEPOSIT),
+    ("when, a choice", "", f'{{"when":[{{"case":{CHOOSES},"then":', '"close"', END, "", CHOICE),
+]
+
+
+def depth(text):
+    """How deep lists and objects of a text nest; no text of this script has a bracket in a string."""
+    level = deepest = 0
+    for letter in text:
+        if letter in "[{":
+            level += 1
+            deepest = max(deepest, level)
+        elif letter in "]}":
+            level -= 1
+    return deepest
+
+
+def deepest(sort, levels):
+    """The deepest text of a sort, and how often it nests."""
+    _, before, opens, inside, closes, behind, _ = sort
+    times = min(levels, (LONGEST - 1000) // len(opens + closes))
+    while True:
+        text = before + opens * times + inside + closes * times + behind
+        if depth(text) <= levels and len(text) <= LONGEST - 1000:
+            return text, times
+        times -= 1
+
+
+def scenario(contract):
+    return (
+        f'{{"tick":0,"genesis":[{{"address":"bank","amount":[[{ADA},9000]]}}],"contracts":[{{"name":"c","currency":"c0","contract":{contract}}}],'
+        f'"threads":[{{"name":"d","contract":"c","by":"bank","accounts":[[[{A},{ADA}],5000]],"minTime":0}}],"plans":[{{"name":"p","keys":["bank"],'
+        '"change":"bank","intents":[{"step":"d","from":2,"to":9,"inputs":[]}]}]}'
+    )
+
+
+def command_lines(folder, sort, levels):
+    """Writes the files of a sort, and gives its command lines."""
+    text, times = deepest(sort, levels)
+    inside, _ = deepest(sort, levels - 3)
+    inputs = ",".join([sort[-1]] * min(times, 256)) if sort[-1] else ""
+    files = {
+        "contract.json": text,
+        "state.json": f'{{"accounts":[[[{A},{ADA}],5000]],"choices":[],"boundValues":[],"minTime":0}}',
+        "transaction.json": f'{{"tx_interval":{{"from":2,"to":9}},"tx_inputs":[{inputs}]}}',
+        "scenario.json": scenario(inside),
+    }
+    for name, content in files.items():
+        with open(os.path.join(folder, name), "w") as file:
+            file.write(content)
+    return [
+        ["run", "contract.json", "state.json", "transaction.json"],
+        ["trace", "contract.json", "transaction.json", "--state", "state.json"],
+        ["next", "contract.json", "state.json", "--from", "2"],
+        ["table", "contract.json"],
+        ["analyse", "contract.json", "state.json"],
+        ["analyse", "contract.json", "state.json", "--json"],
+        ["play", "scenario.json", "--one"],
+    ]
+
+
+def answer(program, words, folder, kib):
+    """The status, below 0 for a signal, and the seconds."""
+    begun = time.time()
+    done = subprocess.run(
+        [program] + words,
+        cwd=folder,
+        stdout=subprocess.DEVNULL,
+        stderr=subprocess.DEVNULL,
+        preexec_fn=lambda: resource.setrlimit(resource.RLIMIT_STACK, (kib * 1024, kib * 1024)),
+    )
+    return done.returncode, time.time() - begun
+
+
+def least(program, words, folder, status):
+    """The least stack in KiB, of 64, 128 and so on, in which the program answers as with enough."""
+    kib = 64
+    while answer(program, words, folder, kib)[0] != status:
+        kib *= 2
+    return kib
+
+
+def main():
+    parser = argparse.ArgumentParser(description=__doc__, formatter_class=argparse.RawDescriptionHelpFormatter)
+    parser.add_argument("program", nargs="?", default=os.path.join(TOP, "crates/marlowe/out/marlowe"))
+    parser.add_argument("--levels", type=int, default=4000)
+    parser.add_argument("--stack", type=int, default=8192)
+    parser.add_argument("--sort")
+    parser.add_argument("--least", action="store_true")
+    asked = parser.parse_args()
+    program, silent = os.path.abspath(asked.program), 0
+    with tempfile.TemporaryDirectory() as folder:
+        for sort in SORTS:
+            if asked.sort not in (None, sort[0]):
+                continue
+            for words in command_lines(folder, sort, asked.levels):
+                words = words + ["--depth", str(asked.levels)]
+                status, seconds = answer(program, words, folder, asked.stack)
+                said = f"{sort[0]}: {words[0]}: status {status}, {seconds:.2f} s"
+                if not 0 <= status <= 4:
+                    said, silent = f"{said}, no answer", silent + 1
+                elif asked.least:
+                    said = f"{said}, {least(program, words, folder, status)} KiB"
+                print(said, flush=True)
+    print("all answered" if silent == 0 else f"{silent} without an answer")
+    return 1 if silent else 0
+
+
+if __name__ == "__main__":
+    sys.exit(main())

@@ -1,5 +1,0 @@
-use Rattle.marlowe_play.proofs.playing.play_watched.Given as goal
-
--- the session is what the opening made
-abbrev pub ghosts-play_on : goal.ghosts-play_on
-ghosts-play_on g a = record { session = a.opening }

@@ -1,0 +1,4 @@
+pub mod Endings
+pub mod EndingLines
+pub mod StepTexts
+pub mod Rows

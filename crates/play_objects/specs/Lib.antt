@@ -1,0 +1,4 @@
+pub mod EntryObjects
+pub mod IntentObjects
+pub mod HoldingObjects
+pub mod Rows

@@ -1,0 +1,3 @@
+mod CasesLemmas
+mod PieceLemmas
+mod WorkedLemmas

@@ -1,0 +1,4 @@
+pub mod StepLines
+pub mod StepObjects
+pub mod Steps
+pub mod Rows

@@ -1,0 +1,4 @@
+pub mod PieceLemmas
+pub mod SearchLemmas
+pub mod ObjectLemmas
+mod Worked

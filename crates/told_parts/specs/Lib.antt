@@ -1,0 +1,5 @@
+pub mod Words
+pub mod Told
+pub mod Lines
+pub mod Members
+pub mod Rows
