@@ -50,8 +50,10 @@ class Folder(rows.Given):
         shutil.copytree(DATA, self.path)
 
     def written(self):
-        """The folder, with each file that is given."""
+        """The folder, with each file that is given, but for `-`, which standard input gives."""
         for name, text in self.files.items():
+            if name == "-":
+                continue
             path = os.path.join(self.path, name)
             os.makedirs(os.path.dirname(path), exist_ok=True)
             with open(path, "wb") as file:
@@ -121,7 +123,7 @@ def is_as_in(folder, path, streams, output, refusal):
 def of_program(program):
     """What the built program prints for a command line."""
     def streams(folder, line):
-        done = subprocess.run([program, *line.split()], cwd=folder.written(), capture_output=True)
+        done = subprocess.run([program, *line.split()], cwd=folder.written(), input=folder.files.get("-", b""), capture_output=True)
         return done.stdout.decode(), done.stderr.decode(), done.returncode
     return streams
 

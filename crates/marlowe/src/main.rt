@@ -3,7 +3,8 @@
 //!
 //! What a command line prints, and its status, is told by `command` of `marlowe_commands`. Here are the words, the files and the
 //! streams. Refusals are explained where standard error is a terminal. Where standard output can't be written, `unwritable` is on
-//! standard error, and the status is 2.
+//! standard error, and the status is 2. All runs in a thread whose stack holds texts of any depth that `--depth` allows; where the system has no
+//! room for one, that is told as want of memory.
 #![tactic(auto)]
 
 mod files;
@@ -11,48 +12,73 @@ mod progress;
 
 use crate::files::HostFiles;
 use crate::progress::Progress;
-use collections::Memory;
 use marlowe_cli::{WordsFault, words};
-use marlowe_commands::{Printed, command};
+use marlowe_commands::{Printed, STACK, command};
 use marlowe_io::emit_output;
-use std::alloc::AllocError;
 use std::io::IsTerminal;
 use std::process::ExitCode;
+use std::rt::{Clock, Env, Files, Stderr};
+use std::sync::Wait;
+use std::thread;
+use std::thread::{Builder, Threads};
 
 fn main(rt: HostRuntime) -> ExitCode {
-    match words(&rt) {
-        Ok(words) => {
-            let for_people = rt.stderr().is_terminal();
-            let progress = Progress::new(&rt, for_people);
-            let files = HostFiles { rt: &rt };
-            let printed = command(&rt, &files, &progress, words.as_slice(), for_people);
-            progress.clear();
-            tell(&rt, &rt.stderr(), printed)
+    let status = thread::scope(thread::scope_env(), &rt, |scope| {
+        match Builder::new()
+            .stack_size(STACK)
+            .spawn_scoped(scope, || status(&rt, &rt.stderr()))
+        {
+            Ok(handle) => handle.join(&rt),
+            Err(_) => out_of_memory(&rt.stderr()),
         }
-        Err(WordsFault::Memory) => tell(&rt, &rt.stderr(), Err(AllocError)),
+    });
+    ExitCode::from(status)
+}
+
+// Has the command line answered, and gives the status.
+fn status<R: AllocGlobal + Clock + Env + Eprint + Files + Input + Print + Sync + Threads + Wait>(
+    rt: &R,
+    errors: &Stderr,
+) -> u8 {
+    match words(rt) {
+        Ok(words) => {
+            let for_people = errors.is_terminal();
+            let progress = Progress::new(rt, for_people);
+            let files = HostFiles { rt };
+            let told = command(rt, &files, &progress, words.as_slice(), for_people);
+            progress.clear();
+            match told {
+                Ok(printed) => tell(rt, errors, printed),
+                Err(_) => out_of_memory(errors),
+            }
+        }
+        Err(WordsFault::Memory) => out_of_memory(errors),
         Err(WordsFault::NoText) => {
-            let _ = eprintln!(rt; "error: a word of the command line is no text in UTF-8");
-            ExitCode::from(2)
+            let _ = errors.write_all(b"error: a word of the command line is no text in UTF-8\n");
+            2
         }
     }
 }
 
-// Writes what is printed, a refusal behind outcomes, and gives its status; or tells that memory was refused, for which it takes none.
-fn tell(output: &impl Print, errors: &impl Print, printed: Result<Printed, Memory>) -> ExitCode {
-    match printed {
-        Ok(printed) => match emit_output(output, printed.output.as_slice()) {
-            Ok(()) => {
-                let _ = emit_output(errors, printed.errors.as_slice());
-                ExitCode::from(printed.status)
-            }
-            Err(_) => {
-                let _ = errors.write_all(b"unwritable\n");
-                ExitCode::from(2)
-            }
-        },
-        Err(_) => {
-            let _ = errors.write_all(b"refused Memory\n");
-            ExitCode::from(1)
+// Writes what is printed, a refusal behind outcomes, and gives its status.
+fn tell(output: &impl Print, errors: &impl Print, printed: Printed) -> u8 {
+    match emit_output(output, printed.output.as_slice()) {
+        Ok(()) => {
+            let _ = emit_output(errors, printed.errors.as_slice());
+            printed.status
         }
+        Err(_) => unwritable(errors),
     }
+}
+
+// Tells that standard output can't be written, and gives the status.
+fn unwritable(errors: &impl Print) -> u8 {
+    let _ = errors.write_all(b"unwritable\n");
+    2
+}
+
+// Tells that memory was refused, for which it takes none, and gives the status.
+fn out_of_memory(errors: &impl Print) -> u8 {
+    let _ = errors.write_all(b"refused Memory\n");
+    1
 }

@@ -1,5 +1,5 @@
 -- What a task says of the words of a command line.
-use Rattle.std.specs.Prelude.{◌≡◌, ◌≤◌, ◌&&◌, ℕ, Bool, ℤ, pos, List, [], Some, None, Option, option_map, unwrap_or, map, true, false, codes}
+use Rattle.std.specs.Prelude.{◌≡◌, ◌≤◌, ◌+◌, ◌&&◌, ℕ, Bool, ℤ, pos, List, [], ◌∷◌, Some, None, Option, bytes_eq, count_by, if◌then◌else◌, option_map, unwrap_or, map, true, false, codes}
 use Rattle.std.specs.Str.Parse.{IsNumeral, signed_digits_value, without_leading_sign}
 use Rattle.clap.specs.Words.{Row, Text, all_of, first_of, one_of}
 use Rattle.marlowe_cli.specs.declared.analyse.AnalyseTask.{AnalyseTask}
@@ -22,10 +22,10 @@ abbrev pub IsTime : Option Text → Option ℤ → Type 0
 IsTime None time = time ≡ None
 IsTime (Some text) time = IsNumeral 10 (without_leading_sign text) × (time ≡ Some (signed_digits_value 10 text))
 
--- how deep lists and objects may nest: 127 levels, or the number that the text says, from 127 to 800
+-- how deep lists and objects may nest: 127 levels, or the number that the text says, from 127 to 4,000
 abbrev pub IsDepth : Option Text → ℕ → Type 0
 IsDepth None depth = depth ≡ 127
-IsDepth (Some text) depth = IsNumeral 10 (without_leading_sign text) × (pos depth ≡ signed_digits_value 10 text) × (127 ≤ depth) × (depth ≤ 800)
+IsDepth (Some text) depth = IsNumeral 10 (without_leading_sign text) × (pos depth ≡ signed_digits_value 10 text) × (127 ≤ depth) × (depth ≤ 4000)
 
 -- JSON, whose refusals have all that is explained, or explanations for people, and not both
 abbrev pub AreApart : Bool → Bool → Type 0
@@ -34,6 +34,23 @@ AreApart json explain = json && explain ≡ false
 -- the words that were given for an argument, in their order
 abbrev pub given_for : Text → List Row → List Text
 given_for name words = unwrap_or (all_of name words) []
+
+-- the path of standard input
+abbrev pub is_input : Text → Bool
+is_input path = bytes_eq path (codes "-")
+
+-- how many of these paths are standard input
+abbrev pub inputs : List Text → ℕ
+inputs paths = count_by is_input paths
+
+-- .. of a path, if there is one
+abbrev pub input_if : Option Text → ℕ
+input_if None = 0
+input_if (Some path) = if is_input path then 1 else 0
+
+-- at most one of these paths is standard input
+abbrev pub ReadsOnce : List Text → Option Text → List Text → Type 0
+ReadsOnce given state more = inputs given + input_if state + inputs more ≤ 1
 
 -- ---- the tasks: the word that was given for each argument, if one was, and the flags
 
@@ -44,8 +61,10 @@ AsksRun words task = (first_of (codes "CONTRACT") words ≡ Some task.contract.n
     × IsFlag (one_of (codes "json") words) task.json
     × IsDepth (one_of (codes "depth") words) task.depth
     × IsFlag (one_of (codes "text-numbers") words) task.text_numbers
+    × IsFlag (one_of (codes "big-as-text") words) task.big_as_text
     × IsFlag (one_of (codes "explain") words) task.explain
     × AreApart task.json task.explain
+    × ReadsOnce (task.contract.now ∷ task.state.now ∷ task.transaction.now ∷ []) None []
 
 abbrev pub AsksTrace : List Row → TraceTask → Type 0
 AsksTrace words task = (first_of (codes "CONTRACT") words ≡ Some task.contract.now)
@@ -55,8 +74,10 @@ AsksTrace words task = (first_of (codes "CONTRACT") words ≡ Some task.contract
     × IsFlag (one_of (codes "json") words) task.json
     × IsDepth (one_of (codes "depth") words) task.depth
     × IsFlag (one_of (codes "text-numbers") words) task.text_numbers
+    × IsFlag (one_of (codes "big-as-text") words) task.big_as_text
     × IsFlag (one_of (codes "explain") words) task.explain
     × AreApart task.json task.explain
+    × ReadsOnce (task.contract.now ∷ []) (option_map (λ path. path.now) task.state) (map (λ path. path.now) task.transactions.items)
 
 abbrev pub AsksNext : List Row → NextTask → Type 0
 AsksNext words task = (first_of (codes "CONTRACT") words ≡ Some task.contract.now)
@@ -69,6 +90,7 @@ AsksNext words task = (first_of (codes "CONTRACT") words ≡ Some task.contract.
     × IsFlag (one_of (codes "text-numbers") words) task.text_numbers
     × IsFlag (one_of (codes "explain") words) task.explain
     × AreApart task.json task.explain
+    × ReadsOnce (task.contract.now ∷ []) (option_map (λ path. path.now) task.state) (map (λ path. path.now) task.after.items)
 
 abbrev pub AsksTable : List Row → TableTask → Type 0
 AsksTable words task = (first_of (codes "CONTRACT") words ≡ Some task.contract.now)
@@ -87,6 +109,7 @@ AsksAnalysis words task = (first_of (codes "CONTRACT") words ≡ Some task.contr
     × IsFlag (one_of (codes "text-numbers") words) task.text_numbers
     × IsFlag (one_of (codes "explain") words) task.explain
     × AreApart task.json task.explain
+    × ReadsOnce (task.contract.now ∷ []) (option_map (λ path. path.now) task.state) []
 
 abbrev pub AsksPlay : List Row → PlayTask → Type 0
 AsksPlay words task = (first_of (codes "SCENARIO") words ≡ Some task.scenario.now)

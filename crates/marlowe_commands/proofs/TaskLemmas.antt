@@ -34,15 +34,15 @@ asks_trace (Some (name, rows)) (Play task) asked is = absurd is
 -- what is asked for is wanted as the task says
 pub wants_face : (explain : Bool) (words : Option (Text × List Row)) (task : Task) → IsAsked words task → WantsFaceIn explain words (face_of explain task)
 wants_face explain None task asked = absurd asked
-wants_face explain (Some (name, rows)) (Run task) (is, (contract, state, tx, json, depth, texts, ex, apart)) =
+wants_face explain (Some (name, rows)) (Run task) (is, (contract, state, tx, json, depth, texts, big, ex, apart, once)) =
     record { json = task.json; explained = task.explain; json_flag = json; explain_flag = ex; is = refl }
-wants_face explain (Some (name, rows)) (Trace task) (is, (contract, txs, state, last, json, depth, texts, ex, apart)) =
+wants_face explain (Some (name, rows)) (Trace task) (is, (contract, txs, state, last, json, depth, texts, big, ex, apart, once)) =
     record { json = task.json; explained = task.explain; json_flag = json; explain_flag = ex; is = refl }
-wants_face explain (Some (name, rows)) (Next task) (is, (contract, state, from, to, after, json, depth, texts, ex, apart)) =
+wants_face explain (Some (name, rows)) (Next task) (is, (contract, state, from, to, after, json, depth, texts, ex, apart, once)) =
     record { json = task.json; explained = task.explain; json_flag = json; explain_flag = ex; is = refl }
 wants_face explain (Some (name, rows)) (Table task) (is, (contract, json, depth, ex, apart)) =
     record { json = task.json; explained = task.explain; json_flag = json; explain_flag = ex; is = refl }
-wants_face explain (Some (name, rows)) (Analyse task) (is, (contract, state, json, runs, strict, depth, texts, ex, apart)) =
+wants_face explain (Some (name, rows)) (Analyse task) (is, (contract, state, json, runs, strict, depth, texts, ex, apart, once)) =
     record { json = task.json; explained = task.explain; json_flag = json; explain_flag = ex; is = refl }
 wants_face explain (Some (name, rows)) (Play task) (is, (scenario, one, strict, kept, json, depth, ex, apart)) =
     record { json = task.json; explained = task.explain; json_flag = json; explain_flag = ex; is = refl }

@@ -10,6 +10,7 @@ use Rattle.marlowe_refusals.specs.declared.trace_fault.TraceFault.{TraceFault}
 use Rattle.marlowe_refusals.specs.Refusals.{json_fault_name, refusal_text}
 use Rattle.refusal_objects.specs.Objects.{fault_members, fault_status, named}
 use Rattle.line_objects.specs.Objects.{lines_object}
+use Rattle.big_texts.specs.Lines.{big_as_text}
 use Rattle.marlowe_run.specs.declared.readable.Readable.{Readable}
 use Rattle.marlowe_trace.specs.Traced.{Told}
 use Rattle.marlowe_next.specs.declared.asked.Asked.{Asked}
@@ -35,16 +36,20 @@ use Rattle.marlowe_commands.specs.Streams.{Saying, Refusal, Streams, says, refus
 abbrev pub refusal_by : Fault → Refusal
 refusal_by f = ((refusal_text f, 1), (fault_members f, fault_status f))
 
+-- the lines of outcomes, with their big numbers as texts where they are wanted so
+abbrev pub outcomes : Bool → List ℕ → List ℕ
+outcomes big text = if big then big_as_text text else text
+
 -- the outcome, or its refusal
-abbrev pub run_said : Result (List ℕ) RunFault → Saying
-run_said (Ok text) = says text 0
-run_said (Err f) = refuses [] (refusal_by (fault.Run f))
+abbrev pub run_said : Bool → Result (List ℕ) RunFault → Saying
+run_said big (Ok text) = says (outcomes big text) 0
+run_said big (Err f) = refuses [] (refusal_by (fault.Run f))
 
 -- the outcomes, and behind them the refusal of the transaction that ends them, if one does; or why none is computed
-abbrev pub trace_said : Result Told TraceFault → Saying
-trace_said (Ok (text, None)) = says text 0
-trace_said (Ok (text, Some f)) = refuses text (refusal_by (fault.Trace f))
-trace_said (Err f) = refuses [] (refusal_by (fault.Trace f))
+abbrev pub trace_said : Bool → Result Told TraceFault → Saying
+trace_said big (Ok (text, None)) = says (outcomes big text) 0
+trace_said big (Ok (text, Some f)) = refuses (outcomes big text) (refusal_by (fault.Trace f))
+trace_said big (Err f) = refuses [] (refusal_by (fault.Trace f))
 
 -- the answer to what is asked where transactions have led, or why there is none
 abbrev pub SaysNext : Asked → Result Reached TraceFault → Saying → Type 0

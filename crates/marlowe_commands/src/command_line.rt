@@ -124,12 +124,14 @@ fn clap_told(alloc: Global, error: &Error) -> Result<Printed, Memory>
             output: Vec::new(alloc),
             errors: text,
             status: 2,
+            unread: false,
         })
     } else {
         Ok(Printed {
             output: text,
             errors: Vec::new(alloc),
             status: 0,
+            unread: false,
         })
     }
 }

@@ -7,9 +7,11 @@
 
 mod command_line;
 mod face;
+mod noted;
 mod printed;
 mod said;
 mod shown;
+mod stack;
 mod stops;
 mod tasks;
 mod texts;
@@ -20,4 +22,5 @@ pub use face::Face;
 pub use marlowe_play::{NoWatch, PlayFault, Watch};
 pub use printed::Printed;
 pub use shown::{analysis_shown, next_shown, play_shown, run_shown, table_shown, trace_shown};
+pub use stack::STACK;
 pub use texts::Texts;

@@ -53,6 +53,10 @@ command name rules = fold with_rule (new_app name) rules
 abbrev pub text_numbers : Rule
 text_numbers = flag (codes "text-numbers")
 
+-- big numbers of outcomes are texts
+abbrev pub big_as_text : Rule
+big_as_text = flag (codes "big-as-text")
+
 -- lines behind a refusal say where and why
 abbrev pub explain : Rule
 explain = flag (codes "explain")
@@ -63,15 +67,16 @@ json = flag (codes "json")
 
 -- how deep lists and objects may nest
 abbrev pub depth : Rule
-depth = number 127 800 (codes "depth")
+depth = number 127 4000 (codes "depth")
 
--- `run CONTRACT STATE TX [--json] [--depth N] [--text-numbers] [--explain]`
+-- `run CONTRACT STATE TX [--json] [--depth N] [--text-numbers] [--big-as-text] [--explain]`
 abbrev pub run_rules : List Rule
-run_rules = given (codes "CONTRACT") ∷ given (codes "STATE") ∷ given (codes "TX") ∷ json ∷ depth ∷ text_numbers ∷ explain ∷ []
+run_rules = given (codes "CONTRACT") ∷ given (codes "STATE") ∷ given (codes "TX") ∷ json ∷ depth ∷ text_numbers ∷ big_as_text ∷ explain ∷ []
 
--- `trace CONTRACT TX.. [--state STATE] [--last] [--json] [--depth N] [--text-numbers] [--explain]`
+-- `trace CONTRACT TX.. [--state STATE] [--last] [--json] [--depth N] [--text-numbers] [--big-as-text] [--explain]`
 abbrev pub trace_rules : List Rule
-trace_rules = given (codes "CONTRACT") ∷ several (codes "TX") ∷ option (codes "state") ∷ flag (codes "last") ∷ json ∷ depth ∷ text_numbers ∷ explain ∷ []
+trace_rules = given (codes "CONTRACT") ∷ several (codes "TX") ∷ option (codes "state") ∷ flag (codes "last") ∷ json ∷ depth ∷ text_numbers
+    ∷ big_as_text ∷ explain ∷ []
 
 -- `next CONTRACT [STATE] [--from T] [--to T] [--after TX].. [--json] [--depth N] [--text-numbers] [--explain]`
 abbrev pub next_rules : List Rule

@@ -1,6 +1,6 @@
 //! The commands, with their arguments and help.
 ghost use Rattle.std.specs.Prelude.{IfOk, codes};
-ghost use Rattle.marlowe_usage.specs.Lines.{IsArgument, IsCommand, IsDraft, given, json, depth, text_numbers, explain, command, program};
+ghost use Rattle.marlowe_usage.specs.Lines.{IsArgument, IsCommand, IsDraft, given, json, depth, text_numbers, big_as_text, explain, command, program};
 ghost use Rattle.marlowe_usage.specs.Lines.{run_rules, trace_rules, next_rules, table_rules, analyse_rules, play_rules, command_line};
 
 use crate::draft::Draft;
@@ -59,7 +59,7 @@ fn json<'a>(alloc: Global) -> Arg<'a>
 fn depth<'a>(alloc: Global) -> Arg<'a>
     ensures { IsArgument depth result }
 {
-    let help = "How deep lists and objects may nest, from 127 to 800; without it 127";
+    let help = "How deep lists and objects may nest, from 127 to 4000; without it 127";
     depth_option(alloc, "depth", help)
 }
 
@@ -69,6 +69,14 @@ fn text_numbers<'a>(alloc: Global) -> Arg<'a>
 {
     let help = "Takes numbers of the state also as texts of their digits";
     flag(alloc, "text-numbers", help)
+}
+
+// The flag for big numbers of outcomes.
+fn big_as_text<'a>(alloc: Global) -> Arg<'a>
+    ensures { IsArgument big_as_text result }
+{
+    let help = "Writes numbers of payments, warnings and the state outside -2^53 to 2^53 as texts";
+    flag(alloc, "big-as-text", help)
 }
 
 // The flag for explanations.
@@ -95,6 +103,7 @@ fn run_command<'a>(alloc: Global) -> Draft<'a>
         .with(json(alloc))
         .with(depth(alloc))
         .with(text_numbers(alloc))
+        .with(big_as_text(alloc))
         .with(explain(alloc))
 }
 
@@ -116,6 +125,7 @@ fn trace_command<'a>(alloc: Global) -> Draft<'a>
         .with(json(alloc))
         .with(depth(alloc))
         .with(text_numbers(alloc))
+        .with(big_as_text(alloc))
         .with(explain(alloc))
 }
 

@@ -36,19 +36,34 @@ mod folder;
 mod shown;
 
 use crate::answers::answer;
+use marlowe_commands::STACK;
 use rows_given::Given;
 use rows_text::{Report, put_answer};
 use std::process::ExitCode;
 use std::rt::{Env, Files};
 use std::sync::Wait;
-use std::thread::Threads;
-use std::{env, fs, io};
+use std::thread::{Builder, Threads};
+use std::{env, fs, io, thread};
 
 fn main(rt: HostRuntime) -> ExitCode {
-    match print_files(&rt) {
-        Ok(true) => ExitCode::SUCCESS,
-        Ok(false) => ExitCode::from(1),
-        Err(_) => ExitCode::from(2),
+    let status = thread::scope(thread::scope_env(), &rt, |scope| {
+        match Builder::new()
+            .stack_size(STACK)
+            .spawn_scoped(scope, || status(&rt))
+        {
+            Ok(handle) => handle.join(&rt),
+            Err(_) => 2,
+        }
+    });
+    ExitCode::from(status)
+}
+
+// Prints the answers, in a thread whose stack holds the deepest texts, as in the program.
+fn status(rt: &HostRuntime) -> u8 {
+    match print_files(rt) {
+        Ok(true) => 0,
+        Ok(false) => 1,
+        Err(_) => 2,
     }
 }
 

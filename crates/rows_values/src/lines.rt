@@ -28,9 +28,10 @@ fn task_told(alloc: Global, task: &Task<'_>) -> Result<String, AllocError> {
 
 fn run_told(alloc: Global, run: &RunTask<'_>) -> Result<String, AllocError> {
     let texts = texts_told(run.text_numbers);
+    let big = big_told(run.big_as_text);
     let explained = explain_told(run.explain);
     format!(in alloc;
-        "run {} {} {}{texts}{explained}",
+        "run {} {} {}{texts}{big}{explained}",
         run.contract, run.state, run.transaction
     )
 }
@@ -43,6 +44,7 @@ fn trace_told(alloc: Global, trace: &TraceTask<'_>) -> Result<String, AllocError
         told.push_str(", the last alone")?;
     }
     told.push_str(texts_told(trace.text_numbers))?;
+    told.push_str(big_told(trace.big_as_text))?;
     told.push_str(explain_told(trace.explain))?;
     Ok(told)
 }
@@ -104,6 +106,14 @@ fn form_told(json: bool) -> &'static str {
 
 fn texts_told(text_numbers: bool) -> &'static str {
     if text_numbers { " with texts" } else { "" }
+}
+
+fn big_told(big_as_text: bool) -> &'static str {
+    if big_as_text {
+        " with big numbers as texts"
+    } else {
+        ""
+    }
 }
 
 fn explain_told(explain: bool) -> &'static str {

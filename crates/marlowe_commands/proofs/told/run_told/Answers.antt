@@ -1,0 +1,8 @@
+use Rattle.marlowe_commands.specs.Streams.{streams_of}
+use Rattle.marlowe_commands.proofs.ShownLemmas.{noted_by}
+use Rattle.marlowe_commands.proofs.told.run_told.Goals as goal
+
+pub returns : goal.returns
+returns g c =
+    noted_by c.args.face ⊥ ⊥ (streams_of c.in_ok-printed.printed) c.run_notes-notes.result.items (streams_of c.noted.result)
+    c.in_ok-printed.ensures c.run_notes-notes.ensures c.noted.ensures
