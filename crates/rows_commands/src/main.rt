@@ -59,7 +59,7 @@ fn main(rt: HostRuntime) -> ExitCode {
 }
 
 // Prints the answers, in a thread whose stack holds the deepest texts, as in the program.
-fn status(rt: &HostRuntime) -> u8 {
+fn status<R: Env + Files + Print + AllocGlobal + Threads + Wait + Sync>(rt: &R) -> u8 {
     match print_files(rt) {
         Ok(true) => 0,
         Ok(false) => 1,
