@@ -38,6 +38,8 @@ ROWS = {
 ANALYSES = {"analyse": "", "alarms": "", "json": " --json"}
 # How a line begins that tells what a party is paid.
 OF_RANGE = ('{"address"', '{"role_token"')
+# And one that tells a transaction of a run.
+OF_RUN = '{"tx_inputs"'
 
 
 class Folder(rows.Given):
@@ -50,8 +52,10 @@ class Folder(rows.Given):
         shutil.copytree(DATA, self.path)
 
     def written(self):
-        """The folder, with each file that is given."""
+        """The folder, with each file that is given, but for `-`, which standard input gives."""
         for name, text in self.files.items():
+            if name == "-":
+                continue
             path = os.path.join(self.path, name)
             os.makedirs(os.path.dirname(path), exist_ok=True)
             with open(path, "wb") as file:
@@ -82,9 +86,11 @@ class Folder(rows.Given):
 
 def part_of(word, count, output):
     """The lines of standard output that a row prints."""
-    lines = output.removesuffix("\n").split("\n")
-    lines = lines[-count:] if word == "last" else [line for line in lines if word != "alarms" or not line.startswith(OF_RANGE)]
-    return "\n".join(lines)
+    lines, kept, is_of_bound = output.removesuffix("\n").split("\n"), [], False
+    for line in lines:
+        is_of_bound = word == "alarms" and (line.startswith(OF_RANGE) or is_of_bound and line.startswith(OF_RUN))
+        kept += [] if is_of_bound else [line]
+    return "\n".join(kept[-count:] if word == "last" else kept)
 
 
 def answer(folder, line, streams):
@@ -121,7 +127,7 @@ def is_as_in(folder, path, streams, output, refusal):
 def of_program(program):
     """What the built program prints for a command line."""
     def streams(folder, line):
-        done = subprocess.run([program, *line.split()], cwd=folder.written(), capture_output=True)
+        done = subprocess.run([program, *line.split()], cwd=folder.written(), input=folder.files.get("-", b""), capture_output=True)
         return done.stdout.decode(), done.stderr.decode(), done.returncode
     return streams
 

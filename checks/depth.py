@@ -1,14 +1,15 @@
 #!/usr/bin/env python3
-"""Asks each command of the deepest texts of each sort, within a stack of 8 MiB, and finds how much stack each needs.
+"""Asks each command of the deepest texts of each sort, and tells how much memory each answer took, which is more than it took of stack.
 
 A text of each sort nests as deep as is asked: operations on values and observations, on either side, and each form of contract that has another one
 inside. It is as long as a text may be, at most. What is answered isn't compared, only that the program answers: a status from 0 to 4, and no signal.
+Commands run in a thread with a stack of its own, so that of the process may be small.
 
 Needs    a program `marlowe`: (cd crates/marlowe && rt run -- --version), or one that tools/marlowe compiled without proofs, which takes about twice as
          much stack
-Usage    checks/depth.py [PROGRAM] [--levels N] [--stack KIB] [--sort NAME] [--least]
-         N is 800, and KIB 8,192; with --sort one sort alone; with --least also the least stack that does, of 64 KiB, 128 KiB, ..
-Expect   a line for each sort and command, with the status and the seconds, then `all answered` and status 0; a few minutes
+Usage    checks/depth.py [PROGRAM] [--levels N] [--stack KIB] [--sort NAME]
+         N is 4,000, and the stack of the process KIB, 8,192; with --sort one sort alone
+Expect   a line for each sort and command, with the status, the seconds and the most memory that it had, then `all answered` and status 0; a few minutes
 Else     `no answer` behind each that ended by a signal, and status 1
 """
 import argparse
@@ -107,37 +108,31 @@ def command_lines(folder, sort, levels):
         ["analyse", "contract.json", "state.json"],
         ["analyse", "contract.json", "state.json", "--json"],
         ["play", "scenario.json", "--one"],
+        ["play", "scenario.json"],
     ]
 
 
 def answer(program, words, folder, kib):
-    """The status, below 0 for a signal, and the seconds."""
+    """The status, below 0 for a signal, the seconds, and the most memory in KiB."""
     begun = time.time()
-    done = subprocess.run(
+    started = subprocess.Popen(
         [program] + words,
         cwd=folder,
+        stdin=subprocess.DEVNULL,
         stdout=subprocess.DEVNULL,
         stderr=subprocess.DEVNULL,
         preexec_fn=lambda: resource.setrlimit(resource.RLIMIT_STACK, (kib * 1024, kib * 1024)),
     )
-    return done.returncode, time.time() - begun
-
-
-def least(program, words, folder, status):
-    """The least stack in KiB, of 64, 128 and so on, in which the program answers as with enough."""
-    kib = 64
-    while answer(program, words, folder, kib)[0] != status:
-        kib *= 2
-    return kib
+    _, status, used = os.wait4(started.pid, 0)
+    return os.waitstatus_to_exitcode(status), time.time() - begun, used.ru_maxrss
 
 
 def main():
     parser = argparse.ArgumentParser(description=__doc__, formatter_class=argparse.RawDescriptionHelpFormatter)
     parser.add_argument("program", nargs="?", default=os.path.join(TOP, "crates/marlowe/out/marlowe"))
-    parser.add_argument("--levels", type=int, default=800)
+    parser.add_argument("--levels", type=int, default=4000)
     parser.add_argument("--stack", type=int, default=8192)
     parser.add_argument("--sort")
-    parser.add_argument("--least", action="store_true")
     asked = parser.parse_args()
     program, silent = os.path.abspath(asked.program), 0
     with tempfile.TemporaryDirectory() as folder:
@@ -146,12 +141,10 @@ def main():
                 continue
             for words in command_lines(folder, sort, asked.levels):
                 words = words + ["--depth", str(asked.levels)]
-                status, seconds = answer(program, words, folder, asked.stack)
-                said = f"{sort[0]}: {words[0]}: status {status}, {seconds:.2f} s"
+                status, seconds, kib = answer(program, words, folder, asked.stack)
+                said = f"{sort[0]}: {words[0]}: status {status}, {seconds:.2f} s, {kib} KiB"
                 if not 0 <= status <= 4:
                     said, silent = f"{said}, no answer", silent + 1
-                elif asked.least:
-                    said = f"{said}, {least(program, words, folder, status)} KiB"
                 print(said, flush=True)
     print("all answered" if silent == 0 else f"{silent} without an answer")
     return 1 if silent else 0

@@ -20,7 +20,8 @@ most a second; at most 64 MiB. Of rows: status 0 or 1, and nothing on standard e
 is asked again alone before it is at fault.
 An analysis may take two seconds, as the search for runs does what the bound on its work allows, and its text may have status 3 too. Among its texts are those whose
 search costs most, of bench/analysis_growth.py: many bounds of a choice, far constants, squares, alarms without a run. It is also asked:
-- that with and without --json the status is the same, and all that is told: kinds, places, runs, parties, tokens and numbers;
+- that with and without --json the status is the same, and all that is told: kinds, places, runs, parties, tokens and numbers; of a text that isn't read the status is 4 with --json,
+  which has the refusal as an object;
 - that it has the lines, or the keys, of docs/formats.md, in its order; that its places are in the contract's text, with a form that can warn so;
 - that it has alarms where its status is 3, and none where it is 0;
 - that it refuses the contract or the state just where `run` does, by the same line.
@@ -272,7 +273,23 @@ def fault_of_command(word, answer):
     if status == 1:
         is_line = err.startswith(b"refused ") and err.endswith(b"\n") and err.count(b"\n") == 1
         return None if is_line and not out else "a refusal that isn't one line on standard error alone"
+    if status == 4 and word == "analyse":
+        return None if line_of_object(out) and not err else "a refusal for tools that isn't one object on standard output alone"
     return f"status {status}"
+
+
+def line_of_object(out):
+    """The line of a refusal that is an object for tools, or nothing where there is no such object."""
+    try:
+        refused = json.loads(out)["refused"]
+        return f"refused {refused['of']} {refused['name']}\n".encode() if out.endswith(b"\n") and out.count(b"\n") == 1 else b""
+    except (ValueError, LookupError, TypeError):
+        return b""
+
+
+def refused_by(answer):
+    """The line of a refusal, for people or for tools."""
+    return line_of_object(answer.out) if answer.status == 4 else answer.err
 
 
 def fault_beside(runner, line, answer):
@@ -284,9 +301,12 @@ def fault_beside(runner, line, answer):
         if fault := fault_of(runner, word, b"", it):
             return f"{what}: {fault}"
     refused = run.err if NOT_READ.fullmatch(run.err) else b""
-    if answer.err != refused or other.err != refused:
+    if refused_by(answer) != refused or refused_by(other) != refused:
         return f"refused otherwise than by run, {refused!r}"
-    if answer.status != other.status:
+    for_tools, for_people = (answer, other) if "--json" in line else (other, answer)
+    if refused and (for_tools.status, for_people.status) != (4, 1):
+        return f"status {for_tools.status} for tools and {for_people.status} for people"
+    if not refused and answer.status != other.status:
         return f"status {answer.status}, and {other.status} for the other reader"
     try:
         if not refused:
@@ -518,11 +538,11 @@ def kinds_of(word, answer):
     """The kinds of an answer: of rows each line's verdict, else of a refusal its names without what is particular to the text."""
     if word == "rows":
         return [f"{word}: {it[1]}" for it in map(VERDICT.match, answer.out.decode("utf-8", "replace").split("\n")) if it]
-    if word == "analyse" and answer.status != 1:
+    if word == "analyse" and answer.status not in (1, 4):
         return [f"{word}: {kind} {'not known' if run is None else 'with a run'}" for kind, _, run in told_of(answer)[0]] or [f"{word}: never warns"]
     if answer.status == 0:
         return [f"{word}: an answer"]
-    return [f"{word}: {' '.join(filter(NAME.fullmatch, answer.err.decode('utf-8', 'replace').split()))}"]
+    return [f"{word}: {' '.join(filter(NAME.fullmatch, refused_by(answer).decode('utf-8', 'replace').split()))}"]
 
 
 def texts_of_examples():

@@ -23,7 +23,7 @@ def run(folder, *parts):
     done = subprocess.run([PROGRAM, "run", "contract", "state", "transaction"], cwd=folder, capture_output=True, encoding="utf-8")
     if done.returncode == 0:
         return {"ok": json.loads(done.stdout)}
-    return {"refused": {} if "a text" in done.stderr else {"of": "semantics", "name": done.stderr.split()[-1]}}
+    return {"refused": {} if "a text" in done.stderr else {"of": "transaction", "name": done.stderr.split()[-1]}}
 
 
 def trace(folder, contract, transactions, state=START):
@@ -37,22 +37,22 @@ def trace(folder, contract, transactions, state=START):
             return {"unable": "trace"}
         came = run(folder, contract, state, transaction)
         if "refused" in came:
-            return {"refused": {**came["refused"], "number": number}}
+            return {"ok": outcomes, "refused": {**came["refused"], "number": number}}
         outcomes.append(came["ok"])
         contract, state = came["ok"]["contract"], came["ok"]["state"]
-    return {"ok": {"outcomes": outcomes}}
+    return {"ok": outcomes}
 
 
 def answered(folder, request):
     if "run" in request:
-        return run(folder, *(request["run"][name] for name in ("contract", "state", "transaction")))
+        return run(folder, *({"state": START, **request["run"]}[name] for name in ("contract", "state", "transaction")))
     return trace(folder, **request["trace"]) if "trace" in request else {"unable": "read"}
 
 
 with tempfile.TemporaryDirectory() as folder:
-    for line in sys.stdin:
+    for line in sys.stdin.buffer:
         try:
-            request = json.loads(line, parse_int=lambda digits: float(digits) if digits == "-0" else int(digits))
+            request = json.loads(line.decode(), parse_int=lambda digits: float(digits) if digits == "-0" else int(digits))
             told = {"id": request["id"], **answered(folder, request)}
         except (ValueError, KeyError, TypeError, RecursionError):
             told = {"id": None, "unable": "line"}

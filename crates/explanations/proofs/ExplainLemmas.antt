@@ -1,5 +1,5 @@
 -- What is told, by what code finds.
-use Rattle.std.proofs.Common.{◌≡◌, ℕ, List, [], length, Bool, true, false, cond, Some, Ok, Err, refl, sym, subst, ap, ◌∙◌}
+use Rattle.std.proofs.Common.{◌≡◌, ℕ, List, [], length, Bool, true, false, cond, Option, Some, None, Ok, Err, refl, sym, subst, ap, ◌∙◌}
 use Rattle.std.specs.Prelude.{nat_lt}
 use Rattle.std.specs.Str.{is_utf8, IsUtf8}
 use Rattle.std.proofs.lemmas.Str.{IsUtf8-from_is_utf8}
@@ -7,6 +7,7 @@ use Rattle.serde_json.specs.Data.{Data}
 use Rattle.json_tree.specs.View.{read_within, view}
 use Rattle.json_tree.specs.declared.tree.Json.{Json}
 use Rattle.json_read_names.specs.ReadsText.{json_within, json_or_not}
+use Rattle.json_read_names.specs.declared.fault.JsonFault.{JsonFault}
 use Rattle.json_read_names.specs.declared.fault.JsonFault.TheVariants.{NotJson, TooLong}
 use Rattle.json.specs.Token.{Token}
 use Rattle.text_spots.specs.declared.spots.Spot.{Spot}
@@ -21,7 +22,7 @@ use Rattle.told_parts.specs.Told.{Told}
 use Rattle.explanations.specs.declared.how.How.{How}
 use Rattle.told_parts.specs.Lines.{beside}
 use Rattle.explanations.specs.Indexes.{indexes_of, keys_in}
-use Rattle.explanations.specs.Explained.{IsFirst, IsToldAt, IsToldBy, IsToldScenario, names_there, spelled, StandsAt, token_behind, told_at}
+use Rattle.explanations.specs.Explained.{ExplainsAnySort, ExplainsIfAny, FaultIsTold, IsFirst, IsTold, IsToldAt, IsToldBy, IsToldIfAny, IsToldScenario, ReadingIsTold, names_there, spelled, StandsAt, token_behind, told_at}
 use Rattle.explanations.specs.ExplainedSupport.{Begins, place_of}
 
 -- a text that is read is UTF-8
@@ -63,6 +64,29 @@ first_told n text json path index indexes spot token utf8 begins found =
 -- what is told of a place, of all that is read
 pub place_told : (how : How) (file text : List ℕ) (sort : Sort) (d : Data) (at : Place) (written : List ℕ) → StopsAt sort d at → IsToldAt how file text d at [] written → IsToldBy how file text sort d written (fault_as sort d)
 place_told how file text sort d at written stops told = subst (IsToldBy how file text sort d written) (sym stops.whole) (at, stops, told)
+
+-- .. by whether there is one
+pub any_told : (how : How) (file text : List ℕ) (sort : Sort) (d : Data) (written : List ℕ) → IsTold how file text sort d written → IsToldBy how file text sort d written (fault_as sort d)
+any_told how file text sort d written told = place_told how file text sort d told.0 written told.1 told.2
+
+pub none_told : (how : How) (file text : List ℕ) (sort : Sort) (d : Data) (written : List ℕ) → fault_as sort d ≡ None → written ≡ [] → IsToldBy how file text sort d written (fault_as sort d)
+none_told how file text sort d written is none = subst (IsToldBy how file text sort d written) (sym is) none
+
+-- what is told of a value explains the text that is read as it
+pub value_explained : (how : How) (file text : List ℕ) (sort : Sort) (d : Data) (found : Option (List ℕ)) → json_within how.depth text ≡ Ok d
+    → IsToldIfAny how file text sort d found → ExplainsIfAny how file text sort d found
+value_explained how file text sort d None reads told = told
+value_explained how file text sort d (Some written) reads told = (
+  (λ is. absurd (no_fault (told.1.whole) is)),
+  subst (ReadingIsTold how file text sort written) (sym reads) (any_told how file text sort d written told),
+)
+  where
+    no_fault : fault_as sort d ≡ Some told.0.fault → fault_as sort d ≡ None → ⊥
+    no_fault is none = cc
+
+pub fault_explained : (how : How) (file text : List ℕ) (fault : JsonFault) (written : List ℕ) → json_within how.depth text ≡ Err fault → FaultIsTold how file text written fault
+    → ExplainsAnySort how file text written
+fault_explained how file text fault written unread told sort = subst (ReadingIsTold how file text sort written) (sym unread) told
 
 pub scenario_told : (how : How) (file text : List ℕ) (d : Data) (at : Place) (written : List ℕ) → StopsIn d at → IsToldAt how file text d at (names_there d at.sort) written
     → IsToldScenario how file text d written (fault_of (scenario d))

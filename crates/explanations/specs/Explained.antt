@@ -1,5 +1,5 @@
 -- What is told of a text that isn't read as one of a sort.
-use Rattle.std.specs.Prelude.{◌≡◌, ◌⊎◌, ℕ, List, [], drop, length, Option, Some, None, Ok, Err}
+use Rattle.std.specs.Prelude.{◌≡◌, ◌≢◌, ◌⊎◌, ℕ, List, [], drop, length, Option, Some, None, Ok, Err}
 use Rattle.json.specs.Token.{Token}
 use Rattle.json.specs.Lex.{tokens}
 use Rattle.serde_json.specs.Data.{Data}
@@ -99,6 +99,11 @@ abbrev pub IsToldBy : How → List ℕ → List ℕ → Sort → Data → List �
 IsToldBy how file text sort d written None = written ≡ []
 IsToldBy how file text sort d written (Some fault) = IsTold how file text sort d written
 
+-- a place at which reading stops is told, or none where it is read
+abbrev pub IsToldIfAny : How → List ℕ → List ℕ → Sort → Data → Option (List ℕ) → Type 0
+IsToldIfAny how file text sort d None = fault_as sort d ≡ None
+IsToldIfAny how file text sort d (Some written) = IsTold how file text sort d written
+
 -- ---- any text
 
 -- a text that is no JSON
@@ -120,6 +125,15 @@ ReadingIsTold how file text sort written (Err fault) = FaultIsTold how file text
 -- what is written explains why a text isn't read as one of a sort
 abbrev pub Explains : How → List ℕ → List ℕ → Sort → List ℕ → Type 0
 Explains how file text sort written = ReadingIsTold how file text sort written (json_within how.depth text)
+
+-- of a text that is JSON what is written explains why it isn't read, or it is read and nothing is written
+abbrev pub ExplainsIfAny : How → List ℕ → List ℕ → Sort → Data → Option (List ℕ) → Type 0
+ExplainsIfAny how file text sort d None = fault_as sort d ≡ None
+ExplainsIfAny how file text sort d (Some written) = (fault_as sort d ≢ None) × Explains how file text sort written
+
+-- why a text isn't JSON is told in the same way of each sort
+abbrev pub ExplainsAnySort : How → List ℕ → List ℕ → List ℕ → Type 0
+ExplainsAnySort how file text written = (sort : Sort) → Explains how file text sort written
 
 -- ---- a scenario
 

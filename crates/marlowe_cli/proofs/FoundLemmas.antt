@@ -1,12 +1,12 @@
 -- From what was found for an argument to what is read of it.
 use Rattle.std.proofs.Common.{◌≡◌, ◌∙◌, Bool, true, false, List, [], ℕ, Option, Some, None, Result, Ok, unwrap_or, option_map, refl, sym, ap, subst, codes}
-use Rattle.std.specs.Prelude.{ℤ}
+use Rattle.std.specs.Prelude.{ℤ, ◌+◌, ◌∷◌, count_by, fold, map, if◌then◌else◌}
 use Rattle.std.specs.Str.Parse.{IsNumeral, signed_digits_value, without_leading_sign}
 use Rattle.std.specs.Result.{result_unwrap_or}
 use Rattle.clap.specs.Words.{Text, TriesOne, matched_of, one_of, one_text, raw_values, rows_of}
 use Rattle.clap.specs.declared.parser.matches.Found.{Found}
 use Rattle.clap.proofs.WalkLemmas.{one_text-rows, raw_values-rows}
-use Rattle.marlowe_cli.specs.Asked.{IsFlag, IsTime, given_for}
+use Rattle.marlowe_cli.specs.Asked.{IsFlag, IsTime, given_for, inputs, is_input}
 
 -- what a flag says is what was found for it
 pub flag_given : (f : Found) (id : Text) (flag : Bool) → (one_text f id ≡ Some (codes "true") → flag ≡ true) → (one_text f id ≡ Some (codes "false") → flag ≡ false)
@@ -34,3 +34,12 @@ module _ {E : Type 0} (Gives : List ℕ → Result ℤ E → Type 0)
   pub time_given : (f : Found) (id : Text) (time : Option ℤ) → (one_text f id ≡ None → let read : Result (Option ℤ) E = Ok time in read ≡ Ok None)
       → ((t : Text) → one_text f id ≡ Some t → TriesOne Gives t (Ok time)) → IsTime (one_of id (rows_of f)) time
   time_given f id time none some = subst (λ text. IsTime text time) (one_text-rows f id) (time_of (one_text f id) time none some)
+
+-- paths that are standard input, counted where they stand
+counted_from : {A : Type 0} (path : A → Text) (n : ℕ) (paths : List A)
+    → fold (λ a p. a + (if is_input (path p) then 1 else 0)) n paths ≡ fold (λ a p. a + (if is_input p then 1 else 0)) n (map path paths)
+counted_from path n [] = refl
+counted_from path n (p ∷ paths) = counted_from path (n + (if is_input (path p) then 1 else 0)) paths
+
+pub counted : {A : Type 0} (path : A → Text) (paths : List A) → count_by (λ p. is_input (path p)) paths ≡ inputs (map path paths)
+counted path paths = counted_from path 0 paths

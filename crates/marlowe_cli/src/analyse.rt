@@ -3,7 +3,7 @@ ghost use Rattle.std.specs.Prelude.{IfOk, Some, codes};
 ghost use Rattle.clap.specs.Words.{found_of, rows_of};
 ghost use Rattle.marlowe_cli.specs.Asked.{IsAsked};
 
-use crate::found::{NoTask, depth, is_given, one_spelling, word, word_if};
+use crate::found::{NoTask, depth, is_given, one_input, one_spelling, word, word_if};
 use crate::task::Task;
 use clap::ArgMatches;
 
@@ -15,11 +15,15 @@ pub struct AnalyseTask<'a> {
     pub state: Option<&'a str>,
     /// As JSON, a refusal too, and not as lines for people.
     pub json: bool,
-    /// No run is looked for, and else one for each alarm.
+    /// No run is looked for, and else those that end in alarms, and those that reach bounds.
     pub no_runs: bool,
+    /// Each alarm is told in full, and else of alarms of one kind at equal parts the first that has a run.
+    pub all: bool,
+    /// Notes on the contract are told too.
+    pub notes: bool,
     /// Status 3 also where a part is told that no run reaches.
     pub strict: bool,
-    /// How deep lists and objects of a contract may nest: from 127 to 800 levels.
+    /// How deep lists and objects of a contract may nest: from 127 to 4,000 levels.
     pub depth: usize,
     /// Numbers of the state may be texts.
     pub text_numbers: bool,
@@ -34,11 +38,16 @@ pub(crate) fn analyse_task<'a>(analyse: &ArgMatches<'a>) -> Result<Task<'a>, NoT
     let json = is_given(analyse, "json");
     let explain = is_given(analyse, "explain");
     one_spelling(json, explain)?;
+    let contract = word(analyse, "CONTRACT")?;
+    let state = word_if(analyse, "STATE");
+    one_input(&[contract], state, &[])?;
     Ok(Task::Analyse(AnalyseTask {
-        contract: word(analyse, "CONTRACT")?,
-        state: word_if(analyse, "STATE"),
+        contract,
+        state,
         json,
         no_runs: is_given(analyse, "no-runs"),
+        all: is_given(analyse, "all"),
+        notes: is_given(analyse, "notes"),
         strict: is_given(analyse, "strict"),
         depth: depth(analyse)?,
         text_numbers: is_given(analyse, "text-numbers"),

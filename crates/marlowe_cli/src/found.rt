@@ -1,7 +1,7 @@
 //! What was found for the arguments of a command.
-ghost use Rattle.std.specs.Prelude.{◌≡◌, ◌≤◌, pos, IfOk, OnOk, codes, map, option_map};
+ghost use Rattle.std.specs.Prelude.{◌≡◌, ◌≤◌, pos, IfOk, OnOk, codes, if◌then◌else◌, map, option_map};
 ghost use Rattle.clap.specs.Words.{first_of, found_of, one_of, rows_of};
-ghost use Rattle.marlowe_cli.specs.Asked.{AreApart, IsDepth, IsFlag, IsTime, given_for};
+ghost use Rattle.marlowe_cli.specs.Asked.{AreApart, IsDepth, IsFlag, IsTime, ReadsOnce, given_for, input_if, inputs, is_input};
 
 use clap::ArgMatches;
 use std::alloc::{AllocError, Global};
@@ -14,6 +14,8 @@ pub enum NoTask {
     Missing,
     /// Both JSON and explanations for people are wanted.
     Both,
+    /// Standard input is given for more than one file.
+    Inputs,
     /// Memory was refused.
     Memory,
 }
@@ -87,9 +89,9 @@ pub fn depth(found: &ArgMatches<'_>) -> Result<usize, NoTask>
 
 // A depth that `clap` lets through.
 fn depth_within(depth: i64) -> Result<usize, NoTask>
-    ensures { IfOk result (λ n. (pos n ≡ depth) × (127 ≤ n) × (n ≤ 800)) }
+    ensures { IfOk result (λ n. (pos n ≡ depth) × (127 ≤ n) × (n ≤ 4000)) }
 {
-    if 127 <= depth && depth <= 800 {
+    if 127 <= depth && depth <= 4_000 {
         Ok(depth as usize)
     } else {
         Err(NoTask::Missing)
@@ -104,5 +106,42 @@ pub fn one_spelling(json: bool, explain: bool) -> Result<(), NoTask>
         Err(NoTask::Both)
     } else {
         Ok(())
+    }
+}
+
+// Whether a path is standard input.
+fn is_input(path: &str) -> bool
+    ensures { result ≡ is_input path.now }
+{
+    path == "-"
+}
+
+// How many of these paths are standard input.
+#[tactic(auto, using(crate::proofs::FoundLemmas::counted))]
+fn inputs(paths: &[&str]) -> usize
+    ensures { result ≡ inputs (map (λ path. path.now) paths.now) }
+{
+    paths.iter().filter(|path| is_input(**path)).count()
+}
+
+// .. of a path, if there is one.
+fn input_if(path: Option<&str>) -> usize
+    ensures { result ≡ input_if (option_map (λ path. path.now) path.entry) }
+{
+    match path {
+        Some(path) => { if is_input(path) { 1 } else { 0 } }
+        None => 0,
+    }
+}
+
+/// Refuses standard input for more than one of these paths.
+pub fn one_input(given: &[&str], state: Option<&str>, more: &[&str]) -> Result<(), NoTask>
+    ensures { OnOk result (ReadsOnce (map (λ path. path.now) given.now) (option_map (λ path. path.now) state.entry) (map (λ path. path.now) more.now)) }
+{
+    let (given, state, more) = (inputs(given), input_if(state), inputs(more));
+    if given <= 1 && state <= 1 - given && more <= 1 - given - state {
+        Ok(())
+    } else {
+        Err(NoTask::Inputs)
     }
 }

@@ -3,7 +3,9 @@ ghost use Rattle.std.specs.Prelude.{IfOk, Some, codes};
 ghost use Rattle.clap.specs.Words.{found_of, rows_of};
 ghost use Rattle.marlowe_cli.specs.Asked.{IsAsked};
 
-use crate::found::{NoTask, depth, is_given, one_spelling, time_if, word, word_if, words_for};
+use crate::found::{
+    NoTask, depth, is_given, one_input, one_spelling, time_if, word, word_if, words_for,
+};
 use crate::task::Task;
 use clap::ArgMatches;
 use std::alloc::Global;
@@ -22,7 +24,7 @@ pub struct NextTask<'a> {
     pub after: Vec<&'a str>,
     /// As JSON, a refusal too, and not as lines for people.
     pub json: bool,
-    /// How deep lists and objects of a contract may nest: from 127 to 800 levels.
+    /// How deep lists and objects of a contract may nest: from 127 to 4,000 levels.
     pub depth: usize,
     /// Numbers of the state may be texts.
     pub text_numbers: bool,
@@ -37,12 +39,16 @@ pub(crate) fn next_task<'a>(alloc: Global, next: &ArgMatches<'a>) -> Result<Task
     let json = is_given(next, "json");
     let explain = is_given(next, "explain");
     one_spelling(json, explain)?;
+    let contract = word(next, "CONTRACT")?;
+    let state = word_if(next, "STATE");
+    let after = words_for(alloc, next, "after")?;
+    one_input(&[contract], state, after.as_slice())?;
     Ok(Task::Next(NextTask {
-        contract: word(next, "CONTRACT")?,
-        state: word_if(next, "STATE"),
+        contract,
+        state,
         from: time_if(next, "from")?,
         to: time_if(next, "to")?,
-        after: words_for(alloc, next, "after")?,
+        after,
         json,
         depth: depth(next)?,
         text_numbers: is_given(next, "text-numbers"),

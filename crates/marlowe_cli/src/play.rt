@@ -20,7 +20,7 @@ pub struct PlayTask<'a> {
     pub kept_open: Vec<&'a str>,
     /// JSON for tools, a refusal too.
     pub json: bool,
-    /// How deep lists and objects of the scenario may nest: from 127 to 800 levels.
+    /// How deep lists and objects of the scenario may nest: from 127 to 4,000 levels.
     pub depth: usize,
     /// Lines say what each step did, what was refused or not built, how each intent ended, and who holds what at the end.
     pub explain: bool,

@@ -13,7 +13,7 @@ pub struct TableTask<'a> {
     pub contract: &'a str,
     /// JSON for tools, a refusal too.
     pub json: bool,
-    /// How deep lists and objects of a contract may nest: from 127 to 800 levels.
+    /// How deep lists and objects of a contract may nest: from 127 to 4,000 levels.
     pub depth: usize,
     /// Lines behind a refusal say where and why.
     pub explain: bool,

@@ -3,7 +3,7 @@ ghost use Rattle.std.specs.Prelude.{IfOk, Some, codes};
 ghost use Rattle.clap.specs.Words.{found_of, rows_of};
 ghost use Rattle.marlowe_cli.specs.Asked.{IsAsked};
 
-use crate::found::{NoTask, depth, is_given, one_spelling, word, word_if, words_for};
+use crate::found::{NoTask, depth, is_given, one_input, one_spelling, word, word_if, words_for};
 use crate::task::Task;
 use clap::ArgMatches;
 use std::alloc::Global;
@@ -20,10 +20,12 @@ pub struct TraceTask<'a> {
     pub last: bool,
     /// JSON for tools, a refusal too.
     pub json: bool,
-    /// How deep lists and objects of a contract may nest: from 127 to 800 levels.
+    /// How deep lists and objects of a contract may nest: from 127 to 4,000 levels.
     pub depth: usize,
     /// Numbers of the state may be texts.
     pub text_numbers: bool,
+    /// Big numbers of outcomes are texts, but for those of the contract.
+    pub big_as_text: bool,
     /// Lines behind a refusal say where and why.
     pub explain: bool,
 }
@@ -35,14 +37,19 @@ pub(crate) fn trace_task<'a>(alloc: Global, trace: &ArgMatches<'a>) -> Result<Ta
     let json = is_given(trace, "json");
     let explain = is_given(trace, "explain");
     one_spelling(json, explain)?;
+    let contract = word(trace, "CONTRACT")?;
+    let transactions = words_for(alloc, trace, "TX")?;
+    let state = word_if(trace, "state");
+    one_input(&[contract], state, transactions.as_slice())?;
     Ok(Task::Trace(TraceTask {
-        contract: word(trace, "CONTRACT")?,
-        transactions: words_for(alloc, trace, "TX")?,
-        state: word_if(trace, "state"),
+        contract,
+        transactions,
+        state,
         last: is_given(trace, "last"),
         json,
         depth: depth(trace)?,
         text_numbers: is_given(trace, "text-numbers"),
+        big_as_text: is_given(trace, "big-as-text"),
         explain,
     }))
 }

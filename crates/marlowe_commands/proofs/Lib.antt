@@ -1,2 +1,3 @@
+mod NoteLemmas
 mod TaskLemmas
 mod ShownLemmas

@@ -2,7 +2,7 @@
 use Rattle.std.proofs.Common.{◌≡◌, ◌⊎◌, ◌∙◌, ℕ, Bool, true, false, List, [], Option, Some, None, Result, Ok, Err, IfOk, inl, inr, refl, sym, ap, subst, codes}
 use Rattle.std.specs.Prelude.{◌++◌}
 use Rattle.std.proofs.lemmas.Bool.{true≢false}
-use Rattle.std.proofs.lemmas.List.{append-nil}
+use Rattle.std.proofs.lemmas.List.{append-nil, append_assoc}
 use Rattle.std.proofs.Math.Dec.{eqb}
 use Rattle.clap.specs.Words.{Row, Text}
 use Rattle.json_members.specs.declared.spelling.Spelling.{Spelling}
@@ -19,7 +19,7 @@ use Rattle.marlowe_run.specs.declared.readable.Readable.{Readable}
 use Rattle.marlowe_trace.specs.Traced.{Told}
 use Rattle.marlowe_next.specs.declared.asked.Asked.{Asked}
 use Rattle.marlowe_next.specs.Question.{Reached}
-use Rattle.marlowe_analyse.specs.declared.analysed.Reader.{Reader}
+use Rattle.marlowe_analyse.specs.declared.analysed.Telling.{Telling}
 use Rattle.json_read_names.specs.Parts.{Reading}
 use Rattle.plans.specs.declared.scenario.Scenario.{Scenario}
 use Rattle.marlowe_play.specs.Played.{Wanted}
@@ -30,9 +30,10 @@ use Rattle.marlowe_play.specs.declared.fault.PlayFault.TheVariants as playing
 use Rattle.marlowe_commands.specs.declared.face.Face.{Face}
 use Rattle.marlowe_commands.specs.declared.face.Face.TheVariants.{Plain, Explained, Json}
 use Rattle.marlowe_commands.specs.declared.printed.Printed.{Printed}
-use Rattle.marlowe_commands.specs.Streams.{Streams, streams_of, Saying, Refusal, says, refuses, for_people, for_tools, shown, spelling_of, IsShown, IsStatus, IsWell, Shows, IsForPeople, IsForTools, IsFor, IsHelp, unreadable}
-use Rattle.marlowe_commands.specs.Tasks.{AsksFor, AsksForAlarms, IsOfLine, IsTrace, MayAlarm, SaysAnalysis, SaysNext, SaysPlay, analysis_status, face_of, refusal_by, run_said, table_said, trace_said, play_status, play_refusal, well_status}
-use Rattle.marlowe_commands.proofs.TaskLemmas.{asks_alarms, asks_trace, wants_face}
+use Rattle.marlowe_commands.specs.Streams.{Streams, streams_of, Saying, Refusal, says, refuses, for_people, for_tools, shown, spelling_of, IsShown, IsStatus, IsWell, Shows, IsForPeople, IsForTools, IsExplained, IsFor, IsHelp, AreNotes, unreadable, with_notes}
+use Rattle.marlowe_commands.specs.Tasks.{AsksFor, AsksForAlarms, IsOfLine, IsTrace, MayAlarm, SaysAnalysis, SaysNext, SaysPlay, analysis_status, face_by, face_of, stream_of, refusal_by, run_said, table_said, trace_said, play_status, play_refusal, well_status}
+use Rattle.marlowe_commands.proofs.NoteLemmas.{both}
+use Rattle.marlowe_commands.proofs.TaskLemmas.{asks_alarms, asks_no_stream, asks_trace, wants_face}
 
 -- nothing behind a text changes nothing
 pub with_none : (text other : List ℕ) → text ≡ other → text ≡ other ++ []
@@ -86,18 +87,18 @@ status_is (fault.Trace f) = trace_status_is f
 refusal_is : (f : Fault) → IsStatus (refusal_by f)
 refusal_is f = inl (refl, status_is f)
 
-run_well : (r : Result (List ℕ) RunFault) → IsWell ⊥ ⊥ (run_said r)
-run_well (Ok text) = inl refl
-run_well (Err f) = (inl refl, refusal_is (fault.Run f))
+run_well : (big : Bool) (r : Result (List ℕ) RunFault) → IsWell ⊥ ⊥ (run_said big r)
+run_well big (Ok text) = inl refl
+run_well big (Err f) = (inl refl, refusal_is (fault.Run f))
 
 table_well : (face : Face) (r : Result (List ℕ) TableFault) → IsWell ⊥ ⊥ (table_said face r)
 table_well face (Ok text) = inl refl
 table_well face (Err f) = (inl refl, refusal_is (fault.Table f))
 
-trace_well : (r : Result Told TraceFault) → IsWell ⊥ (Unit {0}) (trace_said r)
-trace_well (Ok (text, None)) = inl refl
-trace_well (Ok (text, Some f)) = (inr (tt {0}), refusal_is (fault.Trace f))
-trace_well (Err f) = (inl refl, refusal_is (fault.Trace f))
+trace_well : (big : Bool) (r : Result Told TraceFault) → IsWell ⊥ (Unit {0}) (trace_said big r)
+trace_well big (Ok (text, None)) = inl refl
+trace_well big (Ok (text, Some f)) = (inr (tt {0}), refusal_is (fault.Trace f))
+trace_well big (Err f) = (inl refl, refusal_is (fault.Trace f))
 
 next_well : (asked : Asked) (reached : Result Reached TraceFault) (said : Saying) → SaysNext asked reached said → IsWell ⊥ ⊥ said
 next_well asked reached said (inl (text, is, answer)) = subst (IsWell ⊥ ⊥) (sym is) (inl refl)
@@ -109,11 +110,11 @@ alarm_status false true unreached = inl refl
 alarm_status true true false = inl refl
 alarm_status true true true = inr (tt {0}, refl)
 
-analysis_well : (reader : Reader) (strict : Bool) (readable : Readable) (contract : List ℕ) (state : Option (List ℕ)) (said : Saying)
-    → SaysAnalysis reader strict readable contract state said → IsWell (Unit {0}) ⊥ said
-analysis_well reader strict readable contract state said (inl (clear, unreached, text, is, told)) =
+analysis_well : (telling : Telling) (strict : Bool) (readable : Readable) (contract : List ℕ) (state : Option (List ℕ)) (said : Saying)
+    → SaysAnalysis telling strict readable contract state said → IsWell (Unit {0}) ⊥ said
+analysis_well telling strict readable contract state said (inl (clear, unreached, text, is, told)) =
     subst (IsWell (Unit {0}) ⊥) (sym is) (alarm_status strict clear unreached)
-analysis_well reader strict readable contract state said (inr (f, unread, is)) = subst (IsWell (Unit {0}) ⊥) (sym is) (inl refl, refusal_is (fault.Run f))
+analysis_well telling strict readable contract state said (inr (f, unread, is)) = subst (IsWell (Unit {0}) ⊥) (sym is) (inl refl, refusal_is (fault.Run f))
 
 play_status_is : (f : PlayFault) → (play_status f ≡ 1) ⊎ (play_status f ≡ 4)
 play_status_is (playing.Scenario f) = inr refl
@@ -130,33 +131,60 @@ play_well reading wanted said (inr (f, is)) = subst (IsWell (Unit {0}) ⊥) (sym
 
 -- ---- what is shown shows a saying that is well formed
 
+no_notes : (streams : Streams) → streams ≡ with_notes [] streams
+no_notes (output, errors, status) = ap (λ text. (output, text, status)) (sym (append-nil errors))
+
+two_notes : (first second : List ℕ) (streams : Streams) → with_notes second (with_notes first streams) ≡ with_notes (first ++ second) streams
+two_notes first second (output, errors, status) = ap (λ text. (output, text, status)) (append_assoc errors first second)
+
 shows : (face : Face) (alarms outcomes : Type 0) (Says : Saying → Type 0) (Tells : Spelling → List ℕ → Type 0) (streams : Streams)
     → ((said : Saying) → Says said → IsWell alarms outcomes said) → IsShown face Says Tells streams → Shows face alarms outcomes streams
-shows face alarms outcomes Says Tells streams well it = record { said = it.said; is_well = well it.said it.is_said; told = it.told; is = it.is }
+shows face alarms outcomes Says Tells streams well it =
+    record { said = it.said; is_well = well it.said it.is_said; told = it.told; notes = []; are_notes = ([], refl); are_explained = inl refl; is = it.is ∙ no_notes (shown face it.said it.told) }
 
-pub run_shows : (face : Face) (r : Result (List ℕ) RunFault) (Tells : Spelling → List ℕ → Type 0) (streams : Streams)
-    → IsShown face (λ said. said ≡ run_said r) Tells streams → Shows face ⊥ ⊥ streams
-run_shows face r Tells streams it = shows face ⊥ ⊥ (λ said. said ≡ run_said r) Tells streams (λ said is. subst (IsWell ⊥ ⊥) (sym is) (run_well r)) it
+-- .. with notes behind it
+noted : (face : Face) (alarms outcomes : Type 0) (plain streams : Streams) (notes : List ℕ) → AreNotes notes → Shows face alarms outcomes plain
+    → face ≡ Explained → streams ≡ with_notes notes plain → Shows face alarms outcomes streams
+noted face alarms outcomes plain streams notes are it explained is =
+    record {
+      said = it.said;
+      is_well = it.is_well;
+      told = it.told;
+      notes = it.notes ++ notes;
+      are_notes = both it.notes notes it.are_notes are;
+      are_explained = inr explained;
+      is = is ∙ ap (with_notes notes) it.is ∙ two_notes it.notes notes (shown face it.said it.told);
+    }
+
+pub noted_by : (face : Face) (alarms outcomes : Type 0) (plain : Streams) (notes : List ℕ) (streams : Streams) → Shows face alarms outcomes plain
+    → AreNotes notes → (face ≡ Explained) × (streams ≡ with_notes notes plain) ⊎ (streams ≡ plain) → Shows face alarms outcomes streams
+noted_by face alarms outcomes plain notes streams it are (inl (explained, is)) = noted face alarms outcomes plain streams notes are it explained is
+noted_by face alarms outcomes plain notes streams it are (inr same) = subst (Shows face alarms outcomes) (sym same) it
+
+pub run_shows : (face : Face) (big : Bool) (r : Result (List ℕ) RunFault) (Tells : Spelling → List ℕ → Type 0) (streams : Streams)
+    → IsShown face (λ said. said ≡ run_said big r) Tells streams → Shows face ⊥ ⊥ streams
+run_shows face big r Tells streams it =
+    shows face ⊥ ⊥ (λ said. said ≡ run_said big r) Tells streams (λ said is. subst (IsWell ⊥ ⊥) (sym is) (run_well big r)) it
 
 pub table_shows : (face : Face) (r : Result (List ℕ) TableFault) (Tells : Spelling → List ℕ → Type 0) (streams : Streams)
     → IsShown face (λ said. said ≡ table_said face r) Tells streams → Shows face ⊥ ⊥ streams
 table_shows face r Tells streams it =
     shows face ⊥ ⊥ (λ said. said ≡ table_said face r) Tells streams (λ said is. subst (IsWell ⊥ ⊥) (sym is) (table_well face r)) it
 
-pub trace_shows : (face : Face) (r : Result Told TraceFault) (Tells : Spelling → List ℕ → Type 0) (streams : Streams)
-    → IsShown face (λ said. said ≡ trace_said r) Tells streams → Shows face ⊥ (Unit {0}) streams
-trace_shows face r Tells streams it =
-    shows face ⊥ (Unit {0}) (λ said. said ≡ trace_said r) Tells streams (λ said is. subst (IsWell ⊥ (Unit {0})) (sym is) (trace_well r)) it
+pub trace_shows : (face : Face) (big : Bool) (r : Result Told TraceFault) (Tells : Spelling → List ℕ → Type 0) (streams : Streams)
+    → IsShown face (λ said. said ≡ trace_said big r) Tells streams → Shows face ⊥ (Unit {0}) streams
+trace_shows face big r Tells streams it =
+    shows face ⊥ (Unit {0}) (λ said. said ≡ trace_said big r) Tells streams (λ said is. subst (IsWell ⊥ (Unit {0})) (sym is) (trace_well big r)) it
 
 pub next_shows : (face : Face) (asked : Asked) (reached : Result Reached TraceFault) (Tells : Spelling → List ℕ → Type 0) (streams : Streams)
     → IsShown face (SaysNext asked reached) Tells streams → Shows face ⊥ ⊥ streams
 next_shows face asked reached Tells streams it = shows face ⊥ ⊥ (SaysNext asked reached) Tells streams (next_well asked reached) it
 
-pub analysis_shows : (face : Face) (reader : Reader) (strict : Bool) (readable : Readable) (contract : List ℕ) (state : Option (List ℕ))
-    (Tells : Spelling → List ℕ → Type 0) (streams : Streams) → IsShown face (SaysAnalysis reader strict readable contract state) Tells streams
+pub analysis_shows : (face : Face) (telling : Telling) (strict : Bool) (readable : Readable) (contract : List ℕ) (state : Option (List ℕ))
+    (Tells : Spelling → List ℕ → Type 0) (streams : Streams) → IsShown face (SaysAnalysis telling strict readable contract state) Tells streams
     → Shows face (Unit {0}) ⊥ streams
-analysis_shows face reader strict readable contract state Tells streams it =
-    shows face (Unit {0}) ⊥ (SaysAnalysis reader strict readable contract state) Tells streams (analysis_well reader strict readable contract state) it
+analysis_shows face telling strict readable contract state Tells streams it =
+    shows face (Unit {0}) ⊥ (SaysAnalysis telling strict readable contract state) Tells streams (analysis_well telling strict readable contract state) it
 
 pub play_shows : (face : Face) (reading : Reading Scenario) (wanted : Wanted) (Tells : Spelling → List ℕ → Type 0) (streams : Streams)
     → IsShown face (SaysPlay reading wanted) Tells streams → Shows face (Unit {0}) ⊥ streams
@@ -173,7 +201,7 @@ well_widened alarms outcomes more other f g (refuses text refusal) (inr some, st
 pub widened : (face : Face) (alarms outcomes more other : Type 0) (streams : Streams) → (alarms → more) → (outcomes → other) → Shows face alarms outcomes streams
     → Shows face more other streams
 widened face alarms outcomes more other streams f g it =
-    record { said = it.said; is_well = well_widened alarms outcomes more other f g it.said it.is_well; told = it.told; is = it.is }
+    record { said = it.said; is_well = well_widened alarms outcomes more other f g it.said it.is_well; told = it.told; notes = it.notes; are_notes = it.are_notes; are_explained = it.are_explained; is = it.is }
 
 -- nothing is allowed but what always is
 pub widened_from_none : (face : Face) (more other : Type 0) (streams : Streams) → Shows face ⊥ ⊥ streams → Shows face more other streams
@@ -184,9 +212,17 @@ widened_from_none face more other streams it = widened face ⊥ ⊥ more other s
 pub unreadable_shows : (face : Face) (path : List ℕ) (said : Saying) (told : List ℕ) (streams : Streams) → said ≡ refuses [] (unreadable path)
     → (streams ≡ shown face said told) ⊎ (streams ≡ shown face said []) → Shows face ⊥ ⊥ streams
 unreadable_shows face path said told streams is (inl same) =
-    record { said = said; is_well = subst (IsWell ⊥ ⊥) (sym is) (inl refl, inr (refl, refl)); told = told; is = same }
+    record { said = said; is_well = subst (IsWell ⊥ ⊥) (sym is) (inl refl, inr (refl, refl)); told = told; notes = []; are_notes = ([], refl); are_explained = inl refl; is = same ∙ no_notes (shown face said told) }
 unreadable_shows face path said told streams is (inr same) =
-    record { said = said; is_well = subst (IsWell ⊥ ⊥) (sym is) (inl refl, inr (refl, refl)); told = []; is = same }
+    record { said = said; is_well = subst (IsWell ⊥ ⊥) (sym is) (inl refl, inr (refl, refl)); told = []; notes = []; are_notes = ([], refl); are_explained = inl refl; is = same ∙ no_notes (shown face said []) }
+
+-- a text with status 0 is well formed
+pub text_shows : (face : Face) (text : List ℕ) (told : List ℕ) (streams : Streams)
+    → (streams ≡ shown face (says text 0) told) ⊎ (streams ≡ shown face (says text 0) []) → Shows face ⊥ ⊥ streams
+text_shows face text told streams (inl same) =
+    record { said = says text 0; is_well = inl refl; told = told; notes = []; are_notes = ([], refl); are_explained = inl refl; is = same ∙ no_notes (shown face (says text 0) told) }
+text_shows face text told streams (inr same) =
+    record { said = says text 0; is_well = inl refl; told = []; notes = []; are_notes = ([], refl); are_explained = inl refl; is = same ∙ no_notes (shown face (says text 0) []) }
 
 -- ---- on which streams it is
 
@@ -206,17 +242,42 @@ text_for_tools : (alarms : Type 0) (status : ℕ) → (status ≡ 0) ⊎ alarms 
 text_for_tools alarms status (inl zero) = inl zero
 text_for_tools alarms status (inr three) = inr (inr (inr (inr three)))
 
-shown_is_for : (face : Face) (alarms outcomes : Type 0) (said : Saying) (told : List ℕ) → IsWell alarms outcomes said → IsFor face alarms outcomes (shown face said told)
-shown_is_for Plain alarms outcomes (says text status) told well = inl (well, refl)
-shown_is_for Explained alarms outcomes (says text status) told well = inl (well, refl)
-shown_is_for Json alarms outcomes (says text status) told well = (refl, text_for_tools alarms status well)
-shown_is_for Plain alarms outcomes (refuses text refusal) told well = people alarms outcomes text refusal [] well
-shown_is_for Explained alarms outcomes (refuses text refusal) told well = people alarms outcomes text refusal told well
-shown_is_for Json alarms outcomes (refuses text refusal) told well = tools alarms outcomes text refusal told well
+for_people_shown : (explain : Bool) (alarms outcomes : Type 0) (said : Saying) (told : List ℕ) → IsWell alarms outcomes said
+    → IsForPeople alarms outcomes (shown (face_by false explain) said told)
+for_people_shown false alarms outcomes (says text status) told well = inl (well, refl)
+for_people_shown true alarms outcomes (says text status) told well = inl (well, refl)
+for_people_shown false alarms outcomes (refuses text refusal) told well = people alarms outcomes text refusal [] well
+for_people_shown true alarms outcomes (refuses text refusal) told well = people alarms outcomes text refusal told well
+
+for_tools_shown : (alarms outcomes : Type 0) (said : Saying) (told : List ℕ) → IsWell alarms outcomes said → IsForTools alarms (shown Json said told)
+for_tools_shown alarms outcomes (says text status) told well = (refl, text_for_tools alarms status well)
+for_tools_shown alarms outcomes (refuses text refusal) told well = tools alarms outcomes text refusal told well
+
+explained_with : (alarms outcomes : Type 0) (notes : List ℕ) (streams : Streams) → AreNotes notes → IsForPeople alarms outcomes streams
+    → IsExplained alarms outcomes (with_notes notes streams)
+explained_with alarms outcomes notes (output, errors, status) are (inl (told, none)) = inl (told, subst (λ e. AreNotes (e ++ notes)) (sym none) are)
+explained_with alarms outcomes notes (output, errors, status) are (inr refused) = inr refused
+
+-- only where it is explained are there notes
+abbrev is_explained : Face → Type 0
+is_explained Explained = Unit {0}
+is_explained other = ⊥
+
+without : (face : Face) (notes : List ℕ) (plain streams : Streams) → (is_explained face → ⊥) → (notes ≡ []) ⊎ (face ≡ Explained)
+    → streams ≡ with_notes notes plain → streams ≡ plain
+without face notes plain streams other (inl none) is = is ∙ (ap (λ n. with_notes n plain) none ∙ sym (no_notes plain))
+without face notes plain streams other (inr explained) is = absurd (other (subst is_explained (sym explained) (tt {0})))
 
 pub on_streams : (face : Face) (alarms outcomes : Type 0) (streams : Streams) → Shows face alarms outcomes streams → IsFor face alarms outcomes streams
-on_streams face alarms outcomes streams it =
-    subst (IsFor face alarms outcomes) (sym it.is) (shown_is_for face alarms outcomes it.said it.told it.is_well)
+on_streams Plain alarms outcomes streams it =
+    subst (IsForPeople alarms outcomes) (sym (without Plain it.notes (shown Plain it.said it.told) streams (λ no. no) it.are_explained it.is))
+    (for_people_shown false alarms outcomes it.said it.told it.is_well)
+on_streams Explained alarms outcomes streams it =
+    subst (IsExplained alarms outcomes) (sym it.is)
+    (explained_with alarms outcomes it.notes (shown Explained it.said it.told) it.are_notes (for_people_shown true alarms outcomes it.said it.told it.is_well))
+on_streams Json alarms outcomes streams it =
+    subst (IsForTools alarms) (sym (without Json it.notes (shown Json it.said it.told) streams (λ no. no) it.are_explained it.is))
+    (for_tools_shown alarms outcomes it.said it.told it.is_well)
 
 -- ---- alarms have a status of their own
 
@@ -245,18 +306,23 @@ alarmed Plain alarms outcomes (refuses text refusal) told (before, status) three
 alarmed Explained alarms outcomes (refuses text refusal) told (before, status) three = people_alarmed text refusal told status three
 alarmed Json alarms outcomes (refuses text refusal) told (before, status) three = tools_alarmed text refusal told status three
 
+same_status : (notes : List ℕ) (streams : Streams) → (with_notes notes streams).2 ≡ streams.2
+same_status notes (output, errors, status) = refl
+
 three_alarms : (face : Face) (alarms outcomes : Type 0) (streams : Streams) → Shows face alarms outcomes streams → streams.2 ≡ 3 → alarms
 three_alarms face alarms outcomes streams it three =
-    alarmed face alarms outcomes it.said it.told it.is_well (sym (ap (λ (s : Streams). s.2) it.is) ∙ three)
+    alarmed face alarms outcomes it.said it.told it.is_well
+    (sym (same_status it.notes (shown face it.said it.told)) ∙ (sym (ap (λ (s : Streams). s.2) it.is) ∙ three))
 
 -- ---- what the words of a command line print
 
 pub line_shows : (explain : Bool) (words : Option (Text × List Row)) (task : Task) (streams : Streams) → IsAsked words task
-    → Shows (face_of explain task) (MayAlarm task) (IsTrace task) streams → IsOfLine explain words streams
-line_shows explain words task streams asked it =
+    → None ≡ stream_of task → Shows (face_of explain task) (MayAlarm task) (IsTrace task) streams → IsOfLine explain words streams
+line_shows explain words task streams asked none it =
     inl (
       face_of explain task,
-      wants_face explain words task asked,
+      asks_no_stream words task asked (sym none),
+      wants_face explain words task asked (sym none),
       widened (face_of explain task) (MayAlarm task) (IsTrace task) (AsksForAlarms words) (AsksFor (codes "trace") words) streams
           (asks_alarms words task asked) (asks_trace words task asked) it,
     )

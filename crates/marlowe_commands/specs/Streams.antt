@@ -1,6 +1,10 @@
 -- What a command says, and how it is shown: on which stream, and with which status.
 use Rattle.std.specs.Prelude.{◌≡◌, ◌⊎◌, ℕ, Bool, true, false, List, [], ◌∷◌, ◌++◌, codes}
+use Rattle.std.specs.Str.{IsUtf8}
 use Rattle.serde_json.specs.Data.{string}
+use Rattle.json_forms.specs.declared.sort.Sort.{Sort}
+use Rattle.unread_keys.specs.Unread.{notes_in}
+use Rattle.unread_notes.specs.Notes.{AreNotes as FileNotes}
 use Rattle.json_members.specs.Members.{next_member}
 use Rattle.json_members.specs.declared.spelling.Spelling.{Spelling}
 use Rattle.json_members.specs.declared.spelling.Spelling.TheVariants.{Lines, Members}
@@ -85,12 +89,33 @@ abbrev pub IsWell : Type 0 → Type 0 → Saying → Type 0
 IsWell alarms outcomes (says text status) = (status ≡ 0) ⊎ alarms × (status ≡ 3)
 IsWell alarms outcomes (refuses text refusal) = ((text ≡ []) ⊎ outcomes) × IsStatus refusal
 
--- what is printed shows such a saying
+-- ---- notes
+
+-- the notes on the text of a file, which is read as one of a sort
+abbrev pub AreOfFile : List ℕ → Type 0
+AreOfFile lines = (file text : List ℕ) × (sort : Sort) × (depth : ℕ) × IsUtf8 text × FileNotes file text (notes_in depth text sort) lines
+
+-- .. of one file behind those of another
+abbrev pub AreOfFiles : List (List ℕ) → List ℕ → Type 0
+AreOfFiles [] notes = notes ≡ []
+AreOfFiles (lines ∷ others) notes = (rest : List ℕ) × AreOfFile lines × AreOfFiles others rest × (notes ≡ lines ++ rest)
+
+abbrev pub AreNotes : List ℕ → Type 0
+AreNotes notes = (files : List (List ℕ)) × AreOfFiles files notes
+
+-- notes behind what is on standard error: the rest stays
+abbrev pub with_notes : List ℕ → Streams → Streams
+with_notes notes (output, errors, status) = (output, errors ++ notes, status)
+
+-- what is printed shows such a saying, and behind it, where explanations are wanted, maybe notes on texts
 pub record Shows (face : Face) (alarms outcomes : Type 0) (streams : Streams) : Type 0 where
   pub said : Saying
   pub is_well : IsWell alarms outcomes said
   pub told : List ℕ
-  pub is : streams ≡ shown face said told
+  pub notes : List ℕ
+  pub are_notes : AreNotes notes
+  pub are_explained : (notes ≡ []) ⊎ (face ≡ Explained)
+  pub is : streams ≡ with_notes notes (shown face said told)
 
 -- ---- what that says of the streams
 
@@ -101,6 +126,12 @@ IsForPeople alarms outcomes (output, errors, status) =
     ((status ≡ 0) ⊎ alarms × (status ≡ 3)) × (errors ≡ [])
     ⊎ ((status ≡ 1) ⊎ (status ≡ 2)) × ((output ≡ []) ⊎ outcomes)
 
+-- the same with notes on standard error: without a refusal there is nothing else
+abbrev pub IsExplained : Type 0 → Type 0 → Streams → Type 0
+IsExplained alarms outcomes (output, errors, status) =
+    ((status ≡ 0) ⊎ alarms × (status ≡ 3)) × AreNotes errors
+    ⊎ ((status ≡ 1) ⊎ (status ≡ 2)) × ((output ≡ []) ⊎ outcomes)
+
 -- all is on standard output
 abbrev pub IsForTools : Type 0 → Streams → Type 0
 IsForTools alarms (output, errors, status) =
@@ -108,7 +139,7 @@ IsForTools alarms (output, errors, status) =
 
 abbrev pub IsFor : Face → Type 0 → Type 0 → Streams → Type 0
 IsFor Plain alarms outcomes streams = IsForPeople alarms outcomes streams
-IsFor Explained alarms outcomes streams = IsForPeople alarms outcomes streams
+IsFor Explained alarms outcomes streams = IsExplained alarms outcomes streams
 IsFor Json alarms outcomes streams = IsForTools alarms streams
 
 -- ---- where there is nothing to say

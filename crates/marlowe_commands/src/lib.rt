@@ -5,19 +5,24 @@
 //! they are shown to people, with explanations behind a refusal or without, or to tools, as JSON. docs/formats.md has what is printed.
 #![tactic(auto)]
 
+mod command;
 mod command_line;
 mod face;
+mod noted;
 mod printed;
 mod said;
 mod shown;
+mod stack;
 mod stops;
 mod tasks;
 mod texts;
 mod told;
 
+pub use command::Command;
 pub use command_line::{command, shown_on_streams};
 pub use face::Face;
 pub use marlowe_play::{NoWatch, PlayFault, Watch};
 pub use printed::Printed;
 pub use shown::{analysis_shown, next_shown, play_shown, run_shown, table_shown, trace_shown};
+pub use stack::STACK;
 pub use texts::Texts;

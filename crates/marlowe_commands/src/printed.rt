@@ -8,4 +8,6 @@ pub struct Printed {
     pub output: Vec<u8>,
     pub errors: Vec<u8>,
     pub status: u8,
+    /// Whether a text isn't read: then there are no notes on the others.
+    pub unread: bool,
 }

@@ -12,6 +12,9 @@ use marlowe_refusals::{Fault, refusal};
 use refusal_objects::{members, named_members, refused_line, status};
 use std::alloc::Global;
 
+// The status for tools of a text that isn't read.
+const UNREAD: u8 = 4;
+
 /// A refusal, as it is told to people and to tools.
 #[derive(Drop)]
 pub struct Refusal {
@@ -110,6 +113,7 @@ fn on_output(alloc: Global, text: Vec<u8>, status: u8) -> Printed
         output: text,
         errors: Vec::new(alloc),
         status,
+        unread: status == UNREAD,
     }
 }
 
@@ -121,6 +125,7 @@ fn for_people(text: Vec<u8>, refusal: Refusal, lines: &[u8]) -> Result<Printed, 
     let Refusal {
         mut line,
         status,
+        tool_status,
         ..
     } = refusal;
     line.push(b'\n')?;
@@ -129,12 +134,13 @@ fn for_people(text: Vec<u8>, refusal: Refusal, lines: &[u8]) -> Result<Printed, 
         output: text,
         errors: line,
         status,
+        unread: tool_status == UNREAD,
     })
 }
 
-// Puts bytes behind others, or none where memory is refused.
+/// Puts bytes behind others, or none where memory is refused.
 #[tactic(auto, using(crate::proofs::ShownLemmas::with_none))]
-fn put_if(to: &mut Vec<u8>, bytes: &[u8])
+pub(crate) fn put_if(to: &mut Vec<u8>, bytes: &[u8])
     ensures { (to.new.items ≡ to.old.items ++ bytes.now) ⊎ (to.new.items ≡ to.old.items ++ []) }
 {
     let _ = to.extend_from_slice(bytes);

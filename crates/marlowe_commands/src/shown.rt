@@ -17,7 +17,7 @@ use crate::face::Face;
 use crate::printed::Printed;
 use crate::tasks::{analysis_said, next_said, play_said, run_said, table_said, trace_said};
 use collections::Memory;
-use marlowe_analyse::Reader;
+use marlowe_analyse::Telling;
 use marlowe_play::Watch;
 use marlowe_run::Readable;
 use refusal_reasons::{
@@ -48,38 +48,47 @@ fn reasons_if(
     }
 }
 
-/// What is printed for one transaction: its outcome, or its refusal.
+/// What is printed for one transaction: its outcome, with big numbers as texts where they are wanted so, or its refusal.
 pub fn run_shown(
     alloc: Global,
     contract: Source<'_>,
     state: Source<'_>,
     transaction: Source<'_>,
     readable: Readable,
+    big: bool,
     face: Face,
 ) -> Result<Printed, Memory>
     ensures { IfOk result (λ printed. IsShown face
-        (λ said. said ≡ run_said (run_within readable contract.entry.text.now state.entry.text.now transaction.entry.text.now))
+        (λ said. said ≡ run_said big (run_within readable contract.entry.text.now state.entry.text.now transaction.entry.text.now))
         (Tells contract.entry (Some state.entry) readable (behind.One transaction.entry)) (streams_of printed)) }
 {
-    let said = run_said(alloc, contract.text, state.text, transaction.text, readable)?;
+    let said = run_said(
+        alloc,
+        contract.text,
+        state.text,
+        transaction.text,
+        readable,
+        big,
+    )?;
     let wanted = said.is_explained(face);
     let behind = Behind::One(transaction);
     let told = reasons_if(alloc, wanted, contract, Some(state), readable, behind, face);
     said.shown(alloc, face, &told)
 }
 
-/// What is printed for transactions one after another: the outcome of each, or of the last alone, and behind them the refusal of the one
-/// that ends them, if one does.
+/// What is printed for transactions one after another: the outcome of each, or of the last alone, with big numbers as texts where they are wanted
+/// so, and behind them the refusal of the one that ends them, if one does.
 pub fn trace_shown(
     alloc: Global,
     contract: Source<'_>,
     state: Option<Source<'_>>,
     transactions: Sources<'_>,
     asked: marlowe_trace::Asked,
+    big: bool,
     face: Face,
 ) -> Result<Printed, Memory>
     ensures { IfOk result (λ printed. IsShown face
-        (λ said. said ≡ trace_said (trace_text asked contract.entry.text.now (option_map (λ source. source.text.now) state.entry)
+        (λ said. said ≡ trace_said big (trace_text asked contract.entry.text.now (option_map (λ source. source.text.now) state.entry)
         (map (λ text. text.items) transactions.entry.texts.now)))
         (Tells contract.entry state.entry asked.readable (behind.Many transactions.entry)) (streams_of printed)) }
 {
@@ -89,6 +98,7 @@ pub fn trace_shown(
         text_if(state),
         transactions.texts,
         asked,
+        big,
     )?;
     let wanted = said.is_explained(face);
     let behind = Behind::Many(transactions);
@@ -159,12 +169,12 @@ pub fn analysis_shown(
     contract: Source<'_>,
     state: Option<Source<'_>>,
     readable: Readable,
-    reader: Reader,
+    telling: Telling,
     strict: bool,
     face: Face,
 ) -> Result<Printed, Memory>
     ensures { IfOk result (λ printed. IsShown face
-        (SaysAnalysis reader strict readable contract.entry.text.now (option_map (λ source. source.text.now) state.entry))
+        (SaysAnalysis telling strict readable contract.entry.text.now (option_map (λ source. source.text.now) state.entry))
         (Tells contract.entry state.entry readable behind.Nothing) (streams_of printed)) }
 {
     let said = analysis_said(
@@ -172,7 +182,7 @@ pub fn analysis_shown(
         contract.text,
         text_if(state),
         readable,
-        reader,
+        telling,
         strict,
     )?;
     let wanted = said.is_explained(face);

@@ -8,13 +8,14 @@ ghost use Rattle.json_read_names.specs.ReadsText.{of_text_within};
 ghost use Rattle.json_read_scenarios.specs.ReadsScenario as reads;
 ghost use Rattle.marlowe_play.specs.Played.{wanted};
 ghost use Rattle.marlowe_commands.specs.Streams.{refusal_of, refuses, saying_of, says};
-ghost use Rattle.marlowe_commands.specs.Tasks.{SaysAnalysis, SaysNext, SaysPlay, analysis_status, play_members, play_refusal, play_status, run_said, table_answer, table_said, trace_said, well_status};
+ghost use Rattle.marlowe_commands.specs.Tasks.{SaysAnalysis, SaysNext, SaysPlay, analysis_status, outcomes, play_members, play_refusal, play_status, run_said, table_answer, table_said, trace_said, well_status};
 
 use crate::face::Face;
 use crate::said::{Refusal, Said};
+use big_texts::big_as_text;
 use collections::Memory;
 use line_objects::lines_object;
-use marlowe_analyse::{Analysed, Reader, analyse_text};
+use marlowe_analyse::{Analysed, Telling, analyse_text};
 use marlowe_next::next;
 use marlowe_play::{PlayFault, Played, Watch, play_asked, play_refusal};
 use marlowe_refusals::{Fault, RunFault, TableFault, TraceFault, json_fault_name};
@@ -25,6 +26,17 @@ use std::alloc::{AllocError, Global};
 use std::sync::Wait;
 use std::thread::Threads;
 
+// Outcomes, with their big numbers as texts where they are wanted so.
+fn outcomes(alloc: Global, text: Vec<u8>, big: bool) -> Result<Vec<u8>, Memory>
+    ensures { IfOk result (λ written. written.items ≡ outcomes big text.items) }
+{
+    if big {
+        big_as_text(alloc, text.as_slice())
+    } else {
+        Ok(text)
+    }
+}
+
 /// One transaction: its outcome, with status 0, or its refusal.
 pub fn run_said(
     alloc: Global,
@@ -32,11 +44,12 @@ pub fn run_said(
     state: &[u8],
     transaction: &[u8],
     readable: Readable,
+    big: bool,
 ) -> Result<Said, Memory>
-    ensures { IfOk result (λ said. saying_of said ≡ run_said (run_within readable contract.now state.now transaction.now)) }
+    ensures { IfOk result (λ said. saying_of said ≡ run_said big (run_within readable contract.now state.now transaction.now)) }
 {
     match run_within(alloc, contract, state, transaction, readable) {
-        Ok(text) => Ok(Said::Text(text, 0)),
+        Ok(text) => Ok(Said::Text(outcomes(alloc, text, big)?, 0)),
         Err(RunFault::Memory) => Err(AllocError),
         Err(fault) => Said::refused(alloc, Vec::new(alloc), &Fault::Run(fault)),
     }
@@ -50,21 +63,28 @@ pub fn trace_said(
     state: Option<&[u8]>,
     transactions: &[Vec<u8>],
     asked: marlowe_trace::Asked,
+    big: bool,
 ) -> Result<Said, Memory>
-    ensures { IfOk result (λ said. saying_of said ≡ trace_said
+    ensures { IfOk result (λ said. saying_of said ≡ trace_said big
         (trace_text asked contract.now (option_map (λ text. text.now) state.entry) (map (λ text. text.items) transactions.now))) }
 {
     match trace(alloc, contract, state, transactions, asked) {
-        Ok(Traced { text, refused }) => outcomes_said(alloc, text, refused),
+        Ok(Traced { text, refused }) => outcomes_said(alloc, text, refused, big),
         Err(TraceFault::Run(RunFault::Memory)) => Err(AllocError),
         Err(fault) => Said::refused(alloc, Vec::new(alloc), &Fault::Trace(fault)),
     }
 }
 
 // Outcomes, and the refusal that ends them, if one does.
-fn outcomes_said(alloc: Global, text: Vec<u8>, refused: Option<TraceFault>) -> Result<Said, Memory>
-    ensures { IfOk result (λ said. saying_of said ≡ trace_said (Ok (text.items, refused))) }
+fn outcomes_said(
+    alloc: Global,
+    text: Vec<u8>,
+    refused: Option<TraceFault>,
+    big: bool,
+) -> Result<Said, Memory>
+    ensures { IfOk result (λ said. saying_of said ≡ trace_said big (Ok (text.items, refused))) }
 {
+    let text = outcomes(alloc, text, big)?;
     match refused {
         None => Ok(Said::Text(text, 0)),
         Some(fault) => Said::refused(alloc, text, &Fault::Trace(fault)),
@@ -117,13 +137,13 @@ pub fn analysis_said(
     contract: &[u8],
     state: Option<&[u8]>,
     readable: Readable,
-    reader: Reader,
+    telling: Telling,
     strict: bool,
 ) -> Result<Said, Memory>
     ensures { IfOk result (λ said.
-        SaysAnalysis reader strict readable contract.now (option_map (λ text. text.now) state.entry) (saying_of said)) }
+        SaysAnalysis telling strict readable contract.now (option_map (λ text. text.now) state.entry) (saying_of said)) }
 {
-    match analyse_text(alloc, contract, state, readable, reader) {
+    match analyse_text(alloc, contract, state, readable, telling) {
         Ok(
             Analysed {
                 text,

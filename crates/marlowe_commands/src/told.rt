@@ -1,14 +1,18 @@
 //! What is printed for a task, whose files are read first: the contract, the state, and then the transactions in the order of the command
 //! line. Explanations name each text by its path.
 ghost use Rattle.std.specs.Prelude.{IfOk};
-ghost use Rattle.marlowe_commands.specs.Streams.{Shows, streams_of};
+ghost use Rattle.marlowe_commands.specs.Streams.{AreNotes, Shows, streams_of};
 
 use crate::face::Face;
+use crate::noted::{
+    contract_notes, noted, put, scenario_notes, state_notes, transaction_notes, transactions_notes,
+};
 use crate::printed::Printed;
 use crate::shown::{analysis_shown, next_shown, play_shown, run_shown, table_shown, trace_shown};
 use crate::stops::{Stop, text_if, text_of, texts_of};
 use crate::texts::Texts;
-use marlowe_analyse::Reader;
+use collections::Memory;
+use marlowe_analyse::Telling;
 use marlowe_cli::{AnalyseTask, NextTask, PlayTask, RunTask, TableTask, TraceTask};
 use marlowe_play::Watch;
 use marlowe_run::Readable;
@@ -33,7 +37,63 @@ fn source_if<'a>(path: Option<&'a str>, text: &'a Option<Vec<u8>>) -> Option<Sou
     }
 }
 
-#[tactic(auto, using(crate::proofs::ShownLemmas::run_shows))]
+// Whether there are notes on what is printed: they are asked for, and all texts are read.
+fn has_notes(explain: bool, printed: &Printed) -> bool {
+    explain && !printed.unread
+}
+
+// The notes on what a transaction is about.
+fn run_notes(
+    alloc: Global,
+    contract: Source<'_>,
+    state: Source<'_>,
+    transaction: Source<'_>,
+    readable: Readable,
+) -> Vec<u8>
+    ensures { AreNotes result.items }
+{
+    let mut notes = contract_notes(alloc, contract, readable.depth);
+    put(
+        &mut notes,
+        &state_notes(alloc, Some(state), readable.text_numbers),
+    );
+    put(&mut notes, &transaction_notes(alloc, transaction));
+    notes
+}
+
+// The notes on what many transactions are about.
+fn trace_notes(
+    alloc: Global,
+    contract: Source<'_>,
+    state: Option<Source<'_>>,
+    transactions: Sources<'_>,
+    readable: Readable,
+) -> Vec<u8>
+    ensures { AreNotes result.items }
+{
+    let mut notes = analysis_notes(alloc, contract, state, readable);
+    put(&mut notes, &transactions_notes(alloc, transactions));
+    notes
+}
+
+// The notes on what an analysis is about.
+fn analysis_notes(
+    alloc: Global,
+    contract: Source<'_>,
+    state: Option<Source<'_>>,
+    readable: Readable,
+) -> Vec<u8>
+    ensures { AreNotes result.items }
+{
+    let mut notes = contract_notes(alloc, contract, readable.depth);
+    put(
+        &mut notes,
+        &state_notes(alloc, state, readable.text_numbers),
+    );
+    notes
+}
+
+#[tactic(auto, using(crate::proofs::ShownLemmas::run_shows, crate::proofs::ShownLemmas::noted_by))]
 pub fn run_told<'a, T: Texts>(
     alloc: Global,
     texts: &T,
@@ -52,11 +112,16 @@ pub fn run_told<'a, T: Texts>(
     let contract = source(task.contract, &contract);
     let state = source(task.state, &state);
     let transaction = source(task.transaction, &transaction);
-    let printed = run_shown(alloc, contract, state, transaction, readable, face);
-    Ok(printed?)
+    let big = task.big_as_text;
+    let printed = run_shown(alloc, contract, state, transaction, readable, big, face)?;
+    if !has_notes(task.explain, &printed) {
+        return Ok(printed);
+    }
+    let notes = run_notes(alloc, contract, state, transaction, readable);
+    Ok(noted(face, printed, &notes))
 }
 
-#[tactic(auto, using(crate::proofs::ShownLemmas::trace_shows))]
+#[tactic(auto, using(crate::proofs::ShownLemmas::trace_shows, crate::proofs::ShownLemmas::noted_by))]
 pub fn trace_told<'a, T: Texts>(
     alloc: Global,
     texts: &T,
@@ -82,11 +147,16 @@ pub fn trace_told<'a, T: Texts>(
         paths: task.transactions.as_slice(),
         texts: transactions.as_slice(),
     };
-    let printed = trace_shown(alloc, contract, state, transactions, asked, face);
-    Ok(printed?)
+    let big = task.big_as_text;
+    let printed = trace_shown(alloc, contract, state, transactions, asked, big, face)?;
+    if !has_notes(task.explain, &printed) {
+        return Ok(printed);
+    }
+    let notes = trace_notes(alloc, contract, state, transactions, readable);
+    Ok(noted(face, printed, &notes))
 }
 
-#[tactic(auto, using(crate::proofs::ShownLemmas::next_shows))]
+#[tactic(auto, using(crate::proofs::ShownLemmas::next_shows, crate::proofs::ShownLemmas::noted_by))]
 pub fn next_told<'a, T: Texts>(
     alloc: Global,
     texts: &T,
@@ -114,11 +184,15 @@ pub fn next_told<'a, T: Texts>(
         paths: task.after.as_slice(),
         texts: after.as_slice(),
     };
-    let printed = next_shown(alloc, contract, state, after, asked, face);
-    Ok(printed?)
+    let printed = next_shown(alloc, contract, state, after, asked, face)?;
+    if !has_notes(task.explain, &printed) {
+        return Ok(printed);
+    }
+    let notes = trace_notes(alloc, contract, state, after, readable);
+    Ok(noted(face, printed, &notes))
 }
 
-#[tactic(auto, using(crate::proofs::ShownLemmas::table_shows))]
+#[tactic(auto, using(crate::proofs::ShownLemmas::table_shows, crate::proofs::ShownLemmas::noted_by))]
 pub fn table_told<'a, T: Texts>(
     alloc: Global,
     texts: &T,
@@ -129,10 +203,15 @@ pub fn table_told<'a, T: Texts>(
 {
     let contract = text_of(alloc, texts, task.contract)?;
     let contract = source(task.contract, &contract);
-    Ok(table_shown(alloc, contract, task.depth, face)?)
+    let printed = table_shown(alloc, contract, task.depth, face)?;
+    if !has_notes(task.explain, &printed) {
+        return Ok(printed);
+    }
+    let notes = contract_notes(alloc, contract, task.depth);
+    Ok(noted(face, printed, &notes))
 }
 
-#[tactic(auto, using(crate::proofs::ShownLemmas::analysis_shows))]
+#[tactic(auto, using(crate::proofs::ShownLemmas::analysis_shows, crate::proofs::ShownLemmas::noted_by))]
 pub fn analysis_told<'a, T: Texts>(
     alloc: Global,
     texts: &T,
@@ -143,29 +222,33 @@ pub fn analysis_told<'a, T: Texts>(
 {
     let contract = text_of(alloc, texts, task.contract)?;
     let state = text_if(alloc, texts, task.state)?;
-    let reader = reader_of(task.json, task.no_runs);
+    let telling = telling_of(&task);
     let readable = Readable {
         depth: task.depth,
         text_numbers: task.text_numbers,
     };
     let contract = source(task.contract, &contract);
     let state = source_if(task.state, &state);
-    let printed = analysis_shown(alloc, contract, state, readable, reader, task.strict, face);
-    Ok(printed?)
+    let printed = analysis_shown(alloc, contract, state, readable, telling, task.strict, face)?;
+    if !has_notes(task.explain, &printed) {
+        return Ok(printed);
+    }
+    let notes = analysis_notes(alloc, contract, state, readable);
+    Ok(noted(face, printed, &notes))
 }
 
-// Who reads an analysis, by its flags.
-fn reader_of(json: bool, no_runs: bool) -> Reader {
-    match (json, no_runs) {
-        (false, false) => Reader::People,
-        (true, false) => Reader::Tools,
-        (false, true) => Reader::PeopleWithoutRuns,
-        (true, true) => Reader::ToolsWithoutRuns,
+// How an analysis is told, by its flags.
+fn telling_of(task: &AnalyseTask<'_>) -> Telling {
+    Telling {
+        tools: task.json,
+        runs: !task.no_runs,
+        all: task.all,
+        notes: task.notes,
     }
 }
 
 // What a play tells, by its flags.
-fn telling(json: bool, explain: bool) -> marlowe_play::Face {
+fn play_face(json: bool, explain: bool) -> marlowe_play::Face {
     match (json, explain) {
         (true, _) => marlowe_play::Face::Objects,
         (false, true) => marlowe_play::Face::Explained,
@@ -173,7 +256,28 @@ fn telling(json: bool, explain: bool) -> marlowe_play::Face {
     }
 }
 
+// What is printed for a play of this scenario.
 #[tactic(auto, using(crate::proofs::ShownLemmas::play_shows))]
+fn played<R: AllocGlobal + Threads + Wait + Sync, W: Watch + Sync>(
+    rt: &R,
+    watch: &W,
+    scenario: Source<'_>,
+    task: &PlayTask<'_>,
+    face: Face,
+) -> Result<Printed, Memory>
+    ensures { IfOk result (λ printed. Shows face (Unit {0}) ⊥ (streams_of printed)) }
+{
+    let asked = marlowe_play::Asked {
+        one: task.one,
+        face: play_face(task.json, task.explain),
+        depth: task.depth,
+        strict: task.strict,
+        kept_open: task.kept_open.as_slice(),
+    };
+    play_shown(rt, watch, scenario, asked, face)
+}
+
+#[tactic(auto, using(crate::proofs::ShownLemmas::noted_by))]
 pub fn play_told<'a, T: Texts, R: AllocGlobal + Threads + Wait + Sync, W: Watch + Sync>(
     rt: &R,
     texts: &T,
@@ -184,13 +288,11 @@ pub fn play_told<'a, T: Texts, R: AllocGlobal + Threads + Wait + Sync, W: Watch 
     ensures { IfOk result (λ printed. Shows face (Unit {0}) ⊥ (streams_of printed)) }
 {
     let scenario = text_of(rt.alloc(), texts, task.scenario)?;
-    let asked = marlowe_play::Asked {
-        one: task.one,
-        face: telling(task.json, task.explain),
-        depth: task.depth,
-        strict: task.strict,
-        kept_open: task.kept_open.as_slice(),
-    };
     let scenario = source(task.scenario, &scenario);
-    Ok(play_shown(rt, watch, scenario, asked, face)?)
+    let printed = played(rt, watch, scenario, &task, face)?;
+    if !has_notes(face == Face::Explained, &printed) {
+        return Ok(printed);
+    }
+    let notes = scenario_notes(rt.alloc(), scenario, task.depth);
+    Ok(noted(face, printed, &notes))
 }

@@ -53,6 +53,10 @@ command name rules = fold with_rule (new_app name) rules
 abbrev pub text_numbers : Rule
 text_numbers = flag (codes "text-numbers")
 
+-- big numbers of outcomes are texts
+abbrev pub big_as_text : Rule
+big_as_text = flag (codes "big-as-text")
+
 -- lines behind a refusal say where and why
 abbrev pub explain : Rule
 explain = flag (codes "explain")
@@ -63,15 +67,16 @@ json = flag (codes "json")
 
 -- how deep lists and objects may nest
 abbrev pub depth : Rule
-depth = number 127 800 (codes "depth")
+depth = number 127 4000 (codes "depth")
 
--- `run CONTRACT STATE TX [--json] [--depth N] [--text-numbers] [--explain]`
+-- `run CONTRACT STATE TX [--json] [--depth N] [--text-numbers] [--big-as-text] [--explain]`
 abbrev pub run_rules : List Rule
-run_rules = given (codes "CONTRACT") ∷ given (codes "STATE") ∷ given (codes "TX") ∷ json ∷ depth ∷ text_numbers ∷ explain ∷ []
+run_rules = given (codes "CONTRACT") ∷ given (codes "STATE") ∷ given (codes "TX") ∷ json ∷ depth ∷ text_numbers ∷ big_as_text ∷ explain ∷ []
 
--- `trace CONTRACT TX.. [--state STATE] [--last] [--json] [--depth N] [--text-numbers] [--explain]`
+-- `trace CONTRACT TX.. [--state STATE] [--last] [--json] [--depth N] [--text-numbers] [--big-as-text] [--explain]`
 abbrev pub trace_rules : List Rule
-trace_rules = given (codes "CONTRACT") ∷ several (codes "TX") ∷ option (codes "state") ∷ flag (codes "last") ∷ json ∷ depth ∷ text_numbers ∷ explain ∷ []
+trace_rules = given (codes "CONTRACT") ∷ several (codes "TX") ∷ option (codes "state") ∷ flag (codes "last") ∷ json ∷ depth ∷ text_numbers
+    ∷ big_as_text ∷ explain ∷ []
 
 -- `next CONTRACT [STATE] [--from T] [--to T] [--after TX].. [--json] [--depth N] [--text-numbers] [--explain]`
 abbrev pub next_rules : List Rule
@@ -82,15 +87,19 @@ next_rules = given (codes "CONTRACT") ∷ optional (codes "STATE") ∷ time (cod
 abbrev pub table_rules : List Rule
 table_rules = given (codes "CONTRACT") ∷ json ∷ depth ∷ explain ∷ []
 
--- `analyse CONTRACT [STATE] [--json] [--no-runs] [--strict] [--depth N] [--text-numbers] [--explain]`
+-- `analyse CONTRACT [STATE] [--json] [--no-runs] [--all] [--notes] [--strict] [--depth N] [--text-numbers] [--explain]`
 abbrev pub analyse_rules : List Rule
-analyse_rules = given (codes "CONTRACT") ∷ optional (codes "STATE") ∷ json ∷ flag (codes "no-runs") ∷ flag (codes "strict")
-    ∷ depth ∷ text_numbers ∷ explain ∷ []
+analyse_rules = given (codes "CONTRACT") ∷ optional (codes "STATE") ∷ json ∷ flag (codes "no-runs") ∷ flag (codes "all") ∷ flag (codes "notes")
+    ∷ flag (codes "strict") ∷ depth ∷ text_numbers ∷ explain ∷ []
 
 -- `play SCENARIO [--one] [--strict] [--expect-open NAME].. [--json] [--depth N] [--explain]`
 abbrev pub play_rules : List Rule
 play_rules = given (codes "SCENARIO") ∷ flag (codes "one") ∷ flag (codes "strict") ∷ options (codes "expect-open")
     ∷ json ∷ depth ∷ flag (codes "explain") ∷ []
+
+-- `serve [--depth N] [--text-numbers]`
+abbrev pub serve_rules : List Rule
+serve_rules = depth ∷ text_numbers ∷ []
 
 -- the program without its commands: it has a version and needs a command
 abbrev pub program : App
@@ -101,7 +110,8 @@ program = record (new_app (codes "marlowe")) {
 -- the commands, in the order in which help lists them
 abbrev pub commands : List App
 commands = command (codes "run") run_rules ∷ command (codes "trace") trace_rules ∷ command (codes "next") next_rules
-    ∷ command (codes "table") table_rules ∷ command (codes "analyse") analyse_rules ∷ command (codes "play") play_rules ∷ []
+    ∷ command (codes "table") table_rules ∷ command (codes "analyse") analyse_rules ∷ command (codes "play") play_rules
+    ∷ command (codes "serve") serve_rules ∷ []
 
 -- the whole command line
 abbrev pub command_line : App

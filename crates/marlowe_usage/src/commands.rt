@@ -1,7 +1,7 @@
 //! The commands, with their arguments and help.
 ghost use Rattle.std.specs.Prelude.{IfOk, codes};
-ghost use Rattle.marlowe_usage.specs.Lines.{IsArgument, IsCommand, IsDraft, given, json, depth, text_numbers, explain, command, program};
-ghost use Rattle.marlowe_usage.specs.Lines.{run_rules, trace_rules, next_rules, table_rules, analyse_rules, play_rules, command_line};
+ghost use Rattle.marlowe_usage.specs.Lines.{IsArgument, IsCommand, IsDraft, given, json, depth, text_numbers, big_as_text, explain, command, program};
+ghost use Rattle.marlowe_usage.specs.Lines.{run_rules, trace_rules, next_rules, table_rules, analyse_rules, play_rules, serve_rules, command_line};
 
 use crate::draft::Draft;
 use crate::kinds::{depth_option, flag, given, option, optional, options, several, time};
@@ -19,6 +19,7 @@ pub fn command_line<'a>(alloc: Global) -> Result<Command<'a>, AllocError>
         .with_command(table_command(alloc))
         .with_command(analyse_command(alloc))
         .with_command(play_command(alloc))
+        .with_command(serve_command(alloc))
         .made()
 }
 
@@ -59,7 +60,7 @@ fn json<'a>(alloc: Global) -> Arg<'a>
 fn depth<'a>(alloc: Global) -> Arg<'a>
     ensures { IsArgument depth result }
 {
-    let help = "How deep lists and objects may nest, from 127 to 800; without it 127";
+    let help = "How deep lists and objects may nest, from 127 to 4000; without it 127";
     depth_option(alloc, "depth", help)
 }
 
@@ -69,6 +70,14 @@ fn text_numbers<'a>(alloc: Global) -> Arg<'a>
 {
     let help = "Takes numbers of the state also as texts of their digits";
     flag(alloc, "text-numbers", help)
+}
+
+// The flag for big numbers of outcomes.
+fn big_as_text<'a>(alloc: Global) -> Arg<'a>
+    ensures { IsArgument big_as_text result }
+{
+    let help = "Writes numbers of payments, warnings and the state outside -2^53 to 2^53 as texts";
+    flag(alloc, "big-as-text", help)
 }
 
 // The flag for explanations.
@@ -95,6 +104,7 @@ fn run_command<'a>(alloc: Global) -> Draft<'a>
         .with(json(alloc))
         .with(depth(alloc))
         .with(text_numbers(alloc))
+        .with(big_as_text(alloc))
         .with(explain(alloc))
 }
 
@@ -116,6 +126,7 @@ fn trace_command<'a>(alloc: Global) -> Draft<'a>
         .with(json(alloc))
         .with(depth(alloc))
         .with(text_numbers(alloc))
+        .with(big_as_text(alloc))
         .with(explain(alloc))
 }
 
@@ -165,6 +176,8 @@ fn analyse_command<'a>(alloc: Global) -> Draft<'a>
         "An alarm has its kind, its place in the contract's text, and a run that ends in it, a transaction a line, or\n`not known`. What is promised, and what `not known` means, is described in docs/analysis.md.\n\nStatus 0: it never warns and stays within 128 bits. 3: there is an alarm. 1: a text is refused; with --json 4.\n2: a file or these words are at fault.\n\nExample:\n  marlowe analyse contract.json --no-runs";
     let state = "The state from which it starts; without it no accounts and time 0";
     let no_runs = "Looks for no runs, which takes most of the time where none is found";
+    let all = "Tells each alarm in full, also those of one kind at equal parts";
+    let notes = "Tells what is likely a slip, though no run warns of it";
     let strict = "Status 3 also where a part is told that no run reaches";
     Draft::new(alloc, "analyse", about)
         .after_help(after_help)
@@ -172,6 +185,8 @@ fn analyse_command<'a>(alloc: Global) -> Draft<'a>
         .with(optional(alloc, "STATE", state))
         .with(json(alloc))
         .with(flag(alloc, "no-runs", no_runs))
+        .with(flag(alloc, "all", all))
+        .with(flag(alloc, "notes", notes))
         .with(flag(alloc, "strict", strict))
         .with(depth(alloc))
         .with(text_numbers(alloc))
@@ -200,4 +215,16 @@ fn play_command<'a>(alloc: Global) -> Draft<'a>
         .with(json(alloc))
         .with(depth(alloc))
         .with(flag(alloc, "explain", explain))
+}
+
+fn serve_command<'a>(alloc: Global) -> Draft<'a>
+    ensures { IsDraft (command (codes "serve") serve_rules) result }
+{
+    let about = "Answers requests, one on each line of standard input, by a line each.";
+    let after_help =
+        "A request is a JSON object on one line, as {\"id\":7,\"table\":{\"contract\":\"close\"}}, and its answer an object on a\nline of standard output. What may be asked is described in docs/formats.md.\n\nStatus 0: the requests have ended, and each has its answer. 1: memory was refused. 2: standard input can't be read,\nstandard output can't be written, or these words are at fault.\n\nExample:\n  marlowe serve < requests.jsonl";
+    Draft::new(alloc, "serve", about)
+        .after_help(after_help)
+        .with(depth(alloc))
+        .with(text_numbers(alloc))
 }

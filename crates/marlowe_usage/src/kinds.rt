@@ -52,11 +52,11 @@ pub fn time<'a>(alloc: Global, name: &'a str, help: &'a str) -> Arg<'a>
     option(alloc, name, "T", help).value_parser(value_parser!(i64))
 }
 
-/// An option whose value is a depth: a number from 127 to 800.
+/// An option whose value is a depth: a number from 127 to 4,000.
 pub fn depth_option<'a>(alloc: Global, name: &'a str, help: &'a str) -> Arg<'a>
-    ensures { IsArgument (number 127 800 name.entry.now) result }
+    ensures { IsArgument (number 127 4000 name.entry.now) result }
 {
-    option(alloc, name, "N", help).value_parser(value_parser!(i64).range(127..=800))
+    option(alloc, name, "N", help).value_parser(value_parser!(i64).range(127..=4_000))
 }
 
 /// An option that may be given again and again, each time with one value.

@@ -1,21 +1,66 @@
 //! Why a play isn't set up.
-use collections::Memory;
+use collections::{Memory, Text, TryClone};
+use parties::GenesisFault;
+use roles::CompileFault;
+use builder::BuildFault;
+use eutxo_types::TxFault;
+use setup_refusals::SetupRefusal;
 use std::alloc::{AllocError, AllocFailed};
 
 /// Why a setup ends before its end.
 #[derive(Drop)]
 pub enum SetupFault {
-    /// It has a fault: the line that tells it, without a line feed. It is `refused genesis FAULT`, `refused contract NAME FAULT`
-    /// or `refused thread NAME FAULT`, where NAME is the name in the scenario.
-    Refused(Vec<u8>),
+    /// It has a fault: what is refused, and why.
+    Refused(SetupRefusal),
     /// Memory was refused.
     Memory,
 }
 
-// The fault of a setup with this line, or that there was no memory for it.
-pub(crate) fn refused(line: Result<String, Memory>) -> SetupFault {
-    match line {
-        Ok(line) => SetupFault::Refused(line.into_bytes()),
+// A genesis that is refused for this fault.
+pub(crate) fn genesis_refused(fault: GenesisFault) -> SetupFault {
+    match fault {
+        GenesisFault::Memory => SetupFault::Memory,
+        fault => SetupFault::Refused(SetupRefusal::Genesis(fault)),
+    }
+}
+
+// The contract of this name, which isn't compiled for this fault.
+pub(crate) fn contract_refused(name: &Text, fault: CompileFault) -> SetupFault {
+    match fault {
+        CompileFault::Memory => SetupFault::Memory,
+        fault => match name.try_clone() {
+            Ok(name) => SetupFault::Refused(SetupRefusal::Contract(name, fault)),
+            Err(_) => SetupFault::Memory,
+        },
+    }
+}
+
+// The contract of this name, whose id is in use.
+pub(crate) fn contract_in_use(name: &Text) -> SetupFault {
+    match name.try_clone() {
+        Ok(name) => SetupFault::Refused(SetupRefusal::InUse(name)),
+        Err(_) => SetupFault::Memory,
+    }
+}
+
+// The thread of this name, whose start isn't built for this fault.
+pub(crate) fn start_refused(name: &Text, fault: BuildFault) -> SetupFault {
+    match fault {
+        BuildFault::Memory => SetupFault::Memory,
+        fault => match name.try_clone() {
+            Ok(name) => SetupFault::Refused(SetupRefusal::Start(name, fault)),
+            Err(_) => SetupFault::Memory,
+        },
+    }
+}
+
+// The thread of this name, whose start the ledger refuses for this fault.
+pub(crate) fn rule_refused(name: &Text, fault: &TxFault) -> SetupFault {
+    match name.try_clone() {
+        Ok(name) => match fault.try_clone() {
+            Ok(fault) => SetupFault::Refused(SetupRefusal::Rule(name, fault)),
+            Err(_) => SetupFault::Memory,
+        },
         Err(_) => SetupFault::Memory,
     }
 }

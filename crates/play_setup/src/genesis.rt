@@ -2,10 +2,10 @@
 ghost use Rattle.std.specs.Prelude.{◌≡◌, [], map, IfOk};
 ghost use Rattle.play_setup.specs.SetUp.{course, key_output};
 
-use crate::fault::{SetupFault, refused};
+use crate::fault::{SetupFault, genesis_refused};
 use collections::{Items, Memory, TryClone};
 use eutxo_types::{Lock, Output};
-use parties::{Chain, GenesisFault};
+use parties::Chain;
 use plans::Funds;
 use std::alloc::Global;
 
@@ -16,7 +16,7 @@ pub fn first_chain(alloc: Global, genesis: &[Funds], tick: i64) -> Result<Chain,
     let outputs = key_outputs(alloc, genesis)?;
     match Chain::genesis(alloc, outputs, tick) {
         Ok(chain) => Ok(chain),
-        Err(fault) => Err(genesis_refused(alloc, fault)),
+        Err(fault) => Err(genesis_refused(fault)),
     }
 }
 
@@ -32,12 +32,4 @@ pub fn key_outputs(alloc: Global, genesis: &[Funds]) -> Result<Items<Output>, Me
         })?;
     }
     Ok(outputs)
-}
-
-fn genesis_refused(alloc: Global, fault: GenesisFault) -> SetupFault {
-    match fault {
-        GenesisFault::NotKey => refused(format!(in alloc; "refused genesis NotKey")),
-        GenesisFault::TooLarge => refused(format!(in alloc; "refused genesis TooLarge")),
-        GenesisFault::Memory => SetupFault::Memory,
-    }
 }

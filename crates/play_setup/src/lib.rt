@@ -16,4 +16,5 @@ mod starts;
 pub use fault::SetupFault;
 pub use genesis::{first_chain, key_outputs};
 pub use naming::plan_on;
+pub use setup_refusals::{SetupRefusal, setup_line};
 pub use stage::{Stage, set_up};

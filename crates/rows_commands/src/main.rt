@@ -4,7 +4,7 @@
 //! The lines before a row say what files hold, as `rows_given` says, in place of those that lie here. `rows_values` has the rows of what
 //! only calls of the libraries say, as those of `data/values`: JSON, bytes, copies, texts of faults. These are rows of command lines:
 //!
-//! - `marlowe WORDS` is a command line whose words have no spaces in them;
+//! - `marlowe WORDS` is a command line whose words have no spaces in them, and standard input holds what the file `-` does;
 //! - `run TEXT` keeps a text in `transaction.json` and is `marlowe run contract.json state.json transaction.json`;
 //! - `trace TEXT` keeps a text in `transactions.json` and is `marlowe trace contract.json transactions.json`, with `--state state.json`
 //!   behind it where a state is given;
@@ -34,21 +34,37 @@ mod faults;
 mod files;
 mod folder;
 mod shown;
+mod streams;
 
 use crate::answers::answer;
+use marlowe_commands::STACK;
 use rows_given::Given;
 use rows_text::{Report, put_answer};
 use std::process::ExitCode;
 use std::rt::{Env, Files};
 use std::sync::Wait;
-use std::thread::Threads;
-use std::{env, fs, io};
+use std::thread::{Builder, Threads};
+use std::{env, fs, io, thread};
 
 fn main(rt: HostRuntime) -> ExitCode {
-    match print_files(&rt) {
-        Ok(true) => ExitCode::SUCCESS,
-        Ok(false) => ExitCode::from(1),
-        Err(_) => ExitCode::from(2),
+    let status = thread::scope(thread::scope_env(), &rt, |scope| {
+        match Builder::new()
+            .stack_size(STACK)
+            .spawn_scoped(scope, || status(&rt))
+        {
+            Ok(handle) => handle.join(&rt),
+            Err(_) => 2,
+        }
+    });
+    ExitCode::from(status)
+}
+
+// Prints the answers, in a thread whose stack holds the deepest texts, as in the program.
+fn status(rt: &HostRuntime) -> u8 {
+    match print_files(rt) {
+        Ok(true) => 0,
+        Ok(false) => 1,
+        Err(_) => 2,
     }
 }
 

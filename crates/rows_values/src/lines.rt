@@ -1,5 +1,7 @@
 //! What command lines ask for.
-use marlowe_cli::{AnalyseTask, NextTask, PlayTask, RunTask, TableTask, Task, TraceTask, line};
+use marlowe_cli::{
+    AnalyseTask, NextTask, PlayTask, RunTask, ServeTask, TableTask, Task, TraceTask, line,
+};
 use std::alloc::{AllocError, Global};
 
 /// What a command line asks for, or where the text of `clap` goes.
@@ -23,14 +25,16 @@ fn task_told(alloc: Global, task: &Task<'_>) -> Result<String, AllocError> {
         Task::Table(table) => table_told(alloc, table),
         Task::Analyse(analyse) => analysis_told(alloc, analyse),
         Task::Play(play) => play_told(alloc, play),
+        Task::Serve(serve) => serve_told(alloc, serve),
     }
 }
 
 fn run_told(alloc: Global, run: &RunTask<'_>) -> Result<String, AllocError> {
     let texts = texts_told(run.text_numbers);
+    let big = big_told(run.big_as_text);
     let explained = explain_told(run.explain);
     format!(in alloc;
-        "run {} {} {}{texts}{explained}",
+        "run {} {} {}{texts}{big}{explained}",
         run.contract, run.state, run.transaction
     )
 }
@@ -43,6 +47,7 @@ fn trace_told(alloc: Global, trace: &TraceTask<'_>) -> Result<String, AllocError
         told.push_str(", the last alone")?;
     }
     told.push_str(texts_told(trace.text_numbers))?;
+    told.push_str(big_told(trace.big_as_text))?;
     told.push_str(explain_told(trace.explain))?;
     Ok(told)
 }
@@ -75,11 +80,13 @@ fn analysis_told(alloc: Global, analyse: &AnalyseTask<'_>) -> Result<String, All
     let state = state_told(analyse.state);
     let form = form_told(analyse.json);
     let runs = if analyse.no_runs { " without runs" } else { "" };
+    let all = if analyse.all { " in full" } else { "" };
+    let notes = if analyse.notes { " with notes" } else { "" };
     let strictly = if analyse.strict { " strictly" } else { "" };
     let texts = texts_told(analyse.text_numbers);
     let explained = explain_told(analyse.explain);
     format!(in alloc;
-        "analyse {} {state}{form}{runs}{strictly}{texts}{explained}",
+        "analyse {} {state}{form}{runs}{all}{notes}{strictly}{texts}{explained}",
         analyse.contract
     )
 }
@@ -94,6 +101,11 @@ fn play_told(alloc: Global, play: &PlayTask<'_>) -> Result<String, AllocError> {
     format!(in alloc; "play {} {how}{explained}", play.scenario)
 }
 
+fn serve_told(alloc: Global, serve: &ServeTask) -> Result<String, AllocError> {
+    let texts = texts_told(serve.text_numbers);
+    format!(in alloc; "serve to {} levels{texts}", serve.depth)
+}
+
 fn state_told<'a>(state: Option<&'a str>) -> &'a str {
     state.unwrap_or("without a state")
 }
@@ -104,6 +116,14 @@ fn form_told(json: bool) -> &'static str {
 
 fn texts_told(text_numbers: bool) -> &'static str {
     if text_numbers { " with texts" } else { "" }
+}
+
+fn big_told(big_as_text: bool) -> &'static str {
+    if big_as_text {
+        " with big numbers as texts"
+    } else {
+        ""
+    }
 }
 
 fn explain_told(explain: bool) -> &'static str {

@@ -10,6 +10,6 @@ use Rattle.marlowe_commands.proofs.shown.run_shown.Goals as goal
 pub returns : goal.returns
 returns c =
     shown_by c.args.face
-    (λ said. said ≡ run_said (run_within c.args.readable c.args.contract.text.now c.args.state.text.now c.args.transaction.text.now))
+    (λ said. said ≡ run_said c.args.big (run_within c.args.readable c.args.contract.text.now c.args.state.text.now c.args.transaction.text.now))
     (Tells c.args.contract (Some c.args.state) c.args.readable (behind.One c.args.transaction)) (saying_of c.in_ok-said.said)
     c.reasons_if-told.result.items c.shown.result c.in_ok-said.ensures c.reasons_if-told.ensures c.shown.ensures

@@ -10,10 +10,10 @@ use Rattle.marlowe_commands.proofs.shown.trace_shown.Goals as goal
 pub returns : goal.returns
 returns c =
     shown_by c.args.face
-    (λ said. said ≡ trace_said (trace_text c.args.asked c.args.contract.text.now (option_map (λ source. source.text.now) c.args.state)
+    (λ said. said ≡ trace_said c.args.big (trace_text c.args.asked c.args.contract.text.now (option_map (λ source. source.text.now) c.args.state)
     (map (λ text. text.items) c.args.transactions.texts.now)))
     (Tells c.args.contract c.args.state c.args.asked.readable (behind.Many c.args.transactions)) (saying_of c.in_ok-said.said)
     c.reasons_if-told.result.items c.shown.result
-    (subst (λ s. saying_of c.in_ok-said.said ≡ trace_said (trace_text c.args.asked c.args.contract.text.now s
+    (subst (λ s. saying_of c.in_ok-said.said ≡ trace_said c.args.big (trace_text c.args.asked c.args.contract.text.now s
     (map (λ text. text.items) c.args.transactions.texts.now))) c.text_if.ensures c.in_ok-said.ensures)
     c.reasons_if-told.ensures c.shown.ensures

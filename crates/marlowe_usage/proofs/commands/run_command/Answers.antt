@@ -1,6 +1,6 @@
 use Rattle.std.proofs.Common.{codes}
 use Rattle.clap.specs.Words.{new_app, with_rule}
-use Rattle.marlowe_usage.specs.Lines.{given, json, depth, text_numbers, explain}
+use Rattle.marlowe_usage.specs.Lines.{given, json, depth, text_numbers, big_as_text, explain}
 use Rattle.marlowe_usage.proofs.commands.run_command.Goals as goal
 
 pub returns : goal.returns
@@ -19,4 +19,6 @@ returns c =
     let five = with_rule four depth in
     let with_six = c.with-6.ensures five text_numbers with_five c.text_numbers.ensures in
     let six = with_rule five text_numbers in
-    c.with-7.ensures six explain with_six c.explain.ensures
+    let with_seven = c.with-7.ensures six big_as_text with_six c.big_as_text.ensures in
+    let seven = with_rule six big_as_text in
+    c.with-8.ensures seven explain with_seven c.explain.ensures

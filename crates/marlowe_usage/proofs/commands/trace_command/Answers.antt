@@ -1,6 +1,6 @@
 use Rattle.std.proofs.Common.{codes}
 use Rattle.clap.specs.Words.{new_app, with_rule}
-use Rattle.marlowe_usage.specs.Lines.{given, several, option, flag, json, depth, text_numbers, explain}
+use Rattle.marlowe_usage.specs.Lines.{given, several, option, flag, json, depth, text_numbers, big_as_text, explain}
 use Rattle.marlowe_usage.proofs.commands.trace_command.Goals as goal
 
 pub returns : goal.returns
@@ -21,4 +21,6 @@ returns c =
     let six = with_rule five depth in
     let with_seven = c.with-7.ensures six text_numbers with_six c.text_numbers.ensures in
     let seven = with_rule six text_numbers in
-    c.with-8.ensures seven explain with_seven c.explain.ensures
+    let with_eight = c.with-8.ensures seven big_as_text with_seven c.big_as_text.ensures in
+    let eight = with_rule seven big_as_text in
+    c.with-9.ensures eight explain with_eight c.explain.ensures

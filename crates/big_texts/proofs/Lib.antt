@@ -1,0 +1,5 @@
+pub mod TokenLaws
+pub mod LineLaws
+pub mod LoopLemmas
+pub mod StateLaws
+pub mod Worked

@@ -1,0 +1,4 @@
+pub mod BigTexts
+pub mod Lines
+pub mod Laws
+pub mod Rows

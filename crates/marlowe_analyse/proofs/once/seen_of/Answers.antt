@@ -1,0 +1,13 @@
+use Rattle.std.proofs.Common.{List, ◌+◌, take, map, refl, sym, ap, ◌∙◌}
+use Rattle.std.proofs.lemmas.List.{take_all}
+use Rattle.analysis_lines.specs.declared.told.ToldAlarm.{ToldAlarm}
+use Rattle.marlowe_analyse.specs.OnceSupport.{seen_told}
+use Rattle.marlowe_analyse.proofs.OnceLemmas.{seen_more}
+use Rattle.marlowe_analyse.proofs.once.seen_of.Goals as goal
+
+pub loop-one-preserved : goal.loop-one-preserved
+loop-one-preserved c =
+    seen_more c.args.told.now c.loop-one.one-index c.one-item.result _ c.loop-one.seen.items c.push.new.self.items c.loop-one-test.true c.one-item.is refl c.in_ok-push.ensures.items c.loop-one.invariant
+
+pub returns : goal.returns
+returns c = c.loop-one.invariant ∙ ap (λ (ts : List ToldAlarm). map seen_told ts) (take_all c.loop-one.one-index c.args.told.now c.loop-one-test.false)

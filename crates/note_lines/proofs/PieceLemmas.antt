@@ -1,0 +1,28 @@
+-- Pieces behind pieces.
+use Rattle.std.proofs.Common.{◌≡◌, ℕ, List, ◌++◌, ap, ◌∙◌, append_assoc}
+use Rattle.serde_json.specs.Data.{string}
+use Rattle.json.specs.Written.{Written}
+use Rattle.json_write_contracts.specs.Tokens.{Puts}
+use Rattle.places.specs.declared.key.Key.{Key}
+use Rattle.places.specs.Texts.{place_json}
+use Rattle.std.proofs.Common.{subst}
+use Rattle.contract_notes.specs.declared.note.Source.{Source}
+use Rattle.note_lines.specs.NoteLines.{source_json}
+
+pub two_pieces : (a b c x y : List ℕ) → b ≡ a ++ x → c ≡ b ++ y → c ≡ a ++ (x ++ y)
+two_pieces a b c x y e f = f ∙ ap (λ z. z ++ y) e ∙ append_assoc a x y
+
+pub three_pieces : (a b c d x y z : List ℕ) → b ≡ a ++ x → c ≡ b ++ y → d ≡ c ++ z → d ≡ a ++ (x ++ (y ++ z))
+three_pieces a b c d x y z e f g = two_pieces a b d x (y ++ z) e (two_pieces b c d y z f g)
+
+pub four_pieces : (a b c d e x y z w : List ℕ) → b ≡ a ++ x → c ≡ b ++ y → d ≡ c ++ z → e ≡ d ++ w → e ≡ a ++ (x ++ (y ++ (z ++ w)))
+four_pieces a b c d e x y z w f g h i = two_pieces a b e x (y ++ (z ++ w)) f (three_pieces b c d e y z w g h i)
+
+pub word_put : (a b : Written) (w v : List ℕ) → w ≡ v → Puts a b (string w) → Puts a b (string v)
+word_put a b w v e h = subst (λ (x : List ℕ). Puts a b (string x)) e h
+
+pub place_put : (a b : Written) (ks ls : List Key) → ks ≡ ls → Puts a b (place_json ks) → Puts a b (place_json ls)
+place_put a b ks ls e h = subst (λ (x : List Key). Puts a b (place_json x)) e h
+
+pub source_put : (a b : Written) (x y : Source) → x ≡ y → Puts a b (source_json x) → Puts a b (source_json y)
+source_put a b x y e h = subst (λ (z : Source). Puts a b (source_json z)) e h

@@ -1,0 +1,4 @@
+pub mod KeyLemmas
+pub mod GainLemmas
+pub mod NoteLemmas
+pub mod Worked

@@ -1,0 +1,4 @@
+pub mod Sorts
+pub mod Unread
+pub mod Rows
+pub mod UnreadSupport
