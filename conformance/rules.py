@@ -41,7 +41,7 @@ CHOICE = "the choice is the same and the number lies within one of the bounds, e
 ORDER = "Warnings, payments and turns keep their order."
 FITS = "Where all of them lie from -2^127 to 2^127 - 1, the walk's end is the answer"
 FIRST_FORM = "The form of an object is the first in its table whose keys are all there."
-FIRST_FAULT = "The first fault that is met answers"
+FIRST_FAULT = "The first fault that is met is reported"
 STATE_ROWS = "The rows of a list may stand in any order, each key once."
 WRITTEN = "Texts are compact, the keys of each object in the order of their bytes, and hexadecimal digits in lower case."
 
@@ -144,7 +144,7 @@ RULES = {
     "looked into": ("bits", "A deposit's value is visited only where account, party and token are the same.", SEMANTICS,
                     "which is evaluated only where the three are"),
     "first to stop": ("bits", "What stops the computation first answers: a number outside 128 bits, or another fault before it.", SEMANTICS,
-                      "what stops the computation first answers"),
+                      "what stops the computation first is the fault"),
     "digits": ("bits", "A number outside -2^63 to 2^64 - 1 is a text of its digits in payments, warnings and states.", FORMATS,
                "is a text of its decimal digits, with `-` before one below 0"),
     # long
@@ -171,9 +171,9 @@ RULES = {
     "BadHex": ("faults", "A currency symbol isn't pairs of hexadecimal digits.", FORMATS, "| 6 | BadHex |"),
     "Merkleized": ("faults", "A case has `merkleized_then` and no `then`.", FORMATS, "| 7 | Merkleized |"),
     "BadState": ("faults", "An account has a number of 0 or less, or a key stands twice in one list of a state.", FORMATS, "| 8 | BadState |"),
-    "first fault": ("faults", "The first fault that is met answers: the keys of an object in the order of its form, lists from the front.", FORMATS, FIRST_FAULT),
+    "first fault": ("faults", "The first fault that is met is reported: the keys of an object in the order of its form, lists from the front.", FORMATS, FIRST_FAULT),
     "first text": ("faults", "Of a run's texts the contract is read first, then the state, then the transaction.", "docs/refusals.md",
-                   "The first fault that is met answers, so mend it and run again"),
+                   "The first fault that is met is reported, so mend it and run again"),
     # round trips
     "canonical": ("round_trips", "What is read is written with the keys of its form alone, and symbols in lower case.", FORMATS, WRITTEN),
     "rows in order": ("round_trips", "The rows of a state stand in the order of their keys.", FORMATS, "whose rows stand in the order of their keys"),
