@@ -10,18 +10,12 @@
 //! costs is weighed before it is taken, so a search takes no longer than its work allows.
 #![tactic(auto)]
 
-mod candidates;
 mod closing;
-mod constants;
-mod ends;
+mod closing_runs;
 mod search;
-mod turns;
 mod walk;
-mod way;
-mod weights;
-mod work;
-mod written;
 
 pub use closing::can_close;
+pub use closing_runs::ClosingRuns;
+pub use run_ways::is_written;
 pub use search::run_to;
-pub use written::is_written;

@@ -3,14 +3,12 @@ ghost use Rattle.std.specs.Prelude.{IfOk, IfSome};
 ghost use Rattle.contract.specs.Tree.{contract_tree};
 ghost use Rattle.analysis_spec.specs.PlacedRuns.{EndsAt};
 
-use crate::turns::{Turns, next_turns};
 use crate::walk::{Try, try_run};
-use crate::way::Way;
-use crate::work::spend;
 use analysis_spec::Alarm;
 use collections::{Items, Memory};
 use contract::{Contract, State, Transaction};
 use replay::replayed;
+use run_ways::{Turns, Way, next_turns, spend};
 use std::alloc::Global;
 
 // The most points of a run at which it takes another candidate than the first.

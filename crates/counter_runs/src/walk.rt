@@ -5,11 +5,6 @@
 //! `replayed` then throws away. A run that is false is never told.
 ghost use Rattle.std.specs.Prelude.{pos, ◌≤ℤ◌};
 
-use crate::candidates::{Numbers, Times};
-use crate::turns::{Point, Turns};
-use crate::way::{Way, entries_of};
-use crate::work::spend;
-use crate::written::is_written;
 use analysis_spec::{AlarmKind, PathStep};
 use analysis_walk::part_behind;
 use collections::{Items, Memory, Text, TryClone};
@@ -18,6 +13,7 @@ use contract::{
     Token, Transaction, Value,
 };
 use evaluation::{Parts, holds, value};
+use run_ways::{Numbers, Point, Times, Turns, Way, entries_of, is_written, spend};
 use semantics::{Plain, matches};
 use std::alloc::Global;
 
@@ -53,6 +49,26 @@ pub(crate) fn try_run(
     }
     let mut walk = begun(alloc, state, turns, *work)?;
     let reached = walk.reaches(contract, place, way, kind)?;
+    *work = walk.left;
+    walk.tried(reached)
+}
+
+/// Tries a run from a state to the Close at a place, likewise.
+pub(crate) fn try_closing(
+    alloc: Global,
+    contract: &Contract,
+    place: &[PathStep],
+    way: &Way,
+    state: &State,
+    turns: Turns<'_>,
+    work: &mut u64,
+) -> Result<Try, Memory> {
+    if !spend(work, way.copy().saturating_add(TRY)) {
+        let points = Vec::new(alloc);
+        return Ok(Try { run: None, points });
+    }
+    let mut walk = begun(alloc, state, turns, *work)?;
+    let reached = walk.closes(contract, place, way)?;
     *work = walk.left;
     walk.tried(reached)
 }
@@ -167,6 +183,31 @@ impl Walk<'_> {
             }
         }
         Ok(spend(&mut self.left, way.weight(place.len())) && self.alarms(at, kind))
+    }
+
+    // Follows the way, and tells whether the run comes to its end and closes the contract there.
+    fn closes(
+        &mut self,
+        contract: &Contract,
+        place: &[PathStep],
+        way: &Way,
+    ) -> Result<bool, Memory> {
+        let mut at = contract;
+        let now = self.state.min_time();
+        let until = way.until(0);
+        if !is_when(at) && !self.begin(way, now, until)? {
+            return Ok(false);
+        }
+        for index in 0..place.len() {
+            if !spend(&mut self.left, way.weight(index)) {
+                return Ok(false);
+            }
+            match self.step(way, index, at, place[index])? {
+                Some(next) => at = next,
+                None => return Ok(false),
+            }
+        }
+        Ok(matches!(at, Contract::Close))
     }
 
     // Takes a step of the way, by its place: none where the run doesn't go that way.

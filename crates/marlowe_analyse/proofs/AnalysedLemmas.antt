@@ -1,6 +1,6 @@
 -- What is printed of a contract and a state.
-use Rattle.std.proofs.Common.{◌≡◌, ◌≢◌, ℕ, ℤ, suc, arith, Option, Some, None, Bool, true, false, not, List, [], ◌∷◌, length, map, refl, sym, ap, ◌∙◌, subst}
-use Rattle.std.specs.Prelude.{Contains, ◌↔◌, ◌==◌, IsTrue}
+use Rattle.std.proofs.Common.{◌≡◌, ◌≢◌, ℕ, ℤ, suc, arith, Option, Some, None, option_map, IfSome, Bool, true, false, not, List, [], ◌∷◌, length, map, refl, sym, ap, ◌∙◌, subst}
+use Rattle.std.specs.Prelude.{All, Contains, ◌||◌, ◌↔◌, ◌==◌, IsTrue}
 use Rattle.std.specs.List.{AllByRecursion}
 use Rattle.std.proofs.lemmas.List.Elements.{All-from_recursion, recursion_from_All, All-contains, All-contains_itself, All-weaker}
 use Rattle.std.proofs.lemmas.Bool.Decides.{Decides-eqb}
@@ -9,17 +9,22 @@ use Rattle.states.specs.States.{StateMaps}
 use Rattle.analysis_spec.specs.declared.kind.AlarmKind.{AlarmKind}
 use Rattle.analysis_spec.specs.declared.kind.AlarmKind.TheVariants.{Leaves128}
 use Rattle.analysis_spec.specs.declared.alarm.Alarm.{Alarm}
-use Rattle.analysis_spec.specs.declared.paid.PaidRange.{PaidRange}
 use Rattle.analysis_spec.specs.Analysed.{IsSilent, NamesWhatComes, NamesWhereItComes, StaysUnlessTold, NamesWhereItLeaves, AreNeverReached}
 use Rattle.analysis_spec.specs.declared.path.PathStep.{PathStep}
 use Rattle.losses.specs.declared.loss.Loss.{Loss}
+use Rattle.bound_runs.specs.declared.shown.ShownRange.{ShownRange}
+use Rattle.bound_runs.specs.declared.shown.ShownLoss.{ShownLoss}
+use Rattle.bound_runs.specs.Told.{AreReached, AreLost, ranges_of, losses_of}
 use Rattle.places.specs.declared.key.Key.{Key}
 use Rattle.places.specs.Places.{path_keys}
-use Rattle.marlowe_analyse.specs.declared.analysed.Reader.{Reader}
-use Rattle.marlowe_analyse.specs.declared.told.ToldAlarm.{ToldAlarm}
-use Rattle.marlowe_analyse.specs.Told.{Alarms, without_runs, LeastsCanCome, IsOut, AreLosses, NeverAlarms}
-use Rattle.marlowe_analyse.specs.ToldLines.{Line, line_at, line_of}
-use Rattle.marlowe_analyse.specs.Printed.{printed, TellsOfTree}
+use Rattle.marlowe_analyse.specs.declared.analysed.Telling.{Telling}
+use Rattle.analysis_lines.specs.declared.told.ToldAlarm.{ToldAlarm}
+use Rattle.alike_alarms.specs.Alike.{AreHeads}
+use Rattle.marlowe_analyse.specs.Told.{Alarms, seen_alarm, without_runs, LeastsCanCome, IsOut, AreLosses, NeverAlarms}
+use Rattle.analysis_lines.specs.ToldLines.{Line, line_at, line_of, with_heads, LineFits}
+use Rattle.marlowe_analyse.specs.OnceSupport.{seen_told}
+use Rattle.marlowe_analyse.specs.Printed.{printed, AreHeadsIf, TellsOfTree}
+use Rattle.marlowe_analyse.specs.OnceSupport.{ToldOnce, HaveHeads}
 use Rattle.marlowe_analyse.specs.RunsSupport.{HoldRanges, TellsAll, TellPlaces}
 use Rattle.marlowe_analyse.proofs.UnreachedLemmas.{never_among}
 
@@ -60,12 +65,38 @@ still_lost : (s : StateMaps) (c : ContractTree) (all alarms : List Alarm) (losse
 still_lost s c all alarms None f h = λ z. h (f z)
 still_lost s c all alarms (Some ls) f h = h
 
-pub tells_of_tree : (reader : Reader) (given : Bool) (s : StateMaps) (c : ContractTree) (alarms : List Alarm) (places : List (List PathStep)) (ranges : List PaidRange) (time : Option (Option ℤ)) (losses : Option (List Loss)) (told : List ToldAlarm) (ways : List (List Key)) (clear unreached : Bool) (out : List ℕ)
-    → NamesWhereItComes alarms s c → NamesWhereItLeaves alarms s c → NamesWhatComes alarms s c → StaysUnlessTold alarms s c → AreNeverReached places s c → HoldRanges s c ranges → LeastsCanCome ranges s c → IsOut s c alarms time → AreLosses s c alarms losses → TellsAll s c alarms told → TellPlaces places ways
-    → (clear ≡ true ↔ told ≡ []) → (unreached ≡ false ↔ ways ≡ []) → out ≡ printed reader given s.min_time (map line_of told) ways ranges time losses → TellsOfTree reader given s c clear unreached out
-tells_of_tree reader given s c alarms places ranges time losses told ways clear unreached out comes leaves names stays never hold leasts z y t w k l e =
-    let all = t.all in (
+-- alarms that are told once
+no_heads : (ls : List Line) → with_heads ls [] ≡ ls
+no_heads [] = refl
+no_heads (l ∷ ls) = refl
+
+pub fits_once : (once : Bool) (c : ContractTree) (alarms told : List ToldAlarm) → ToldOnce once c alarms told → All LineFits alarms → All LineFits told
+fits_once true c alarms told h z = h.fit
+fits_once false c alarms told h z = subst (All LineFits) (sym h) z
+
+-- the heads of all alarms, and their lines
+pub record Heads (once : Bool) (c : ContractTree) (all : Alarms) (told : List ToldAlarm) : Type 0 where
+  pub found : List (Option ℕ)
+  pub heads : AreHeadsIf once c all found
+  pub lines : map line_of told ≡ with_heads (map (line_at c) all) found
+
+module _ (c : ContractTree) (all : Alarms) (alarms told : List ToldAlarm) (seen : map seen_told alarms ≡ map seen_alarm all) (lines : map line_of alarms ≡ map (line_at c) all) where
+  pub heads_once : (once : Bool) → ToldOnce once c alarms told → Heads once c all told
+  heads_once true h = record {
+    found = h.found;
+    heads = subst (λ zs. AreHeads c zs h.found) seen h.heads;
+    lines = h.lines ∙ ap (λ ls. with_heads ls h.found) lines;
+  }
+  heads_once false h = record { found = []; heads = refl; lines = ap (map line_of) h ∙ lines ∙ sym (no_heads (map (line_at c) all)) }
+
+pub tells_of_tree : (telling : Telling) (given : Bool) (s : StateMaps) (c : ContractTree) (alarms : List Alarm) (places : List (List PathStep)) (ranges : List ShownRange) (time : Option (Option ℤ)) (losses : Option (List ShownLoss)) (told once : List ToldAlarm) (ways : List (List Key)) (clear unreached : Bool) (out : List ℕ)
+    → NamesWhereItComes alarms s c → NamesWhereItLeaves alarms s c → NamesWhatComes alarms s c → StaysUnlessTold alarms s c → AreNeverReached places s c → HoldRanges s c (ranges_of ranges) → LeastsCanCome (ranges_of ranges) s c → AreReached s c ranges → IsOut s c alarms time → AreLosses s c alarms (option_map losses_of losses) → IfSome losses (AreLost s c) → TellsAll s c alarms told → ToldOnce (not (telling.tools || telling.all)) c told once → TellPlaces places ways
+    → (clear ≡ true ↔ told ≡ []) → (unreached ≡ false ↔ ways ≡ []) → out ≡ printed telling given s c (map line_of once) ways ranges time losses → TellsOfTree telling given s c clear unreached out
+tells_of_tree telling given s c alarms places ranges time losses told once ways clear unreached out comes leaves names stays never hold leasts reach z y lost t o w k l e =
+    let all = t.all in
+    let x = heads_once c all told once t.so.seen t.so.lines (not (telling.tools || telling.all)) o in (
       all,
+      x.found,
       w.all,
       ranges,
       time,
@@ -83,14 +114,17 @@ tells_of_tree reader given s c alarms places ranges time losses told ways clear 
         unpaid = hold.unpaid;
         leasts = leasts;
         out = still_out s c (without_runs all) alarms time (fewer (λ (a : Alarm). a.kind ≢ Leaves128) (without_runs all) alarms t.has) z;
-        down = still_lost s c (without_runs all) alarms losses (fewer (λ (a : Alarm). a.kind ≢ Leaves128) (without_runs all) alarms t.has) y;
+        down = still_lost s c (without_runs all) alarms (option_map losses_of losses) (fewer (λ (a : Alarm). a.kind ≢ Leaves128) (without_runs all) alarms t.has) y;
       },
-      e ∙ (ap (λ (ls : List Line). printed reader given s.min_time ls ways ranges time losses) t.so.lines ∙ ap (λ (ks : List (List Key)). printed reader given s.min_time (map (line_at c) all) ks ranges time losses) w.keys),
+      reach,
+      lost,
+      x.heads,
+      e ∙ (ap (λ (ls : List Line). printed telling given s c ls ways ranges time losses) x.lines ∙ ap (λ (ks : List (List Key)). printed telling given s c (with_heads (map (line_at c) all) x.found) ks ranges time losses) w.keys),
       (λ h. same_empty line_of (line_at c) told all t.so.lines (k.0 h), λ h. k.1 (same_empty (line_at c) line_of all told (sym t.so.lines) h)),
       (λ h. none_mapped path_keys w.all (sym w.keys ∙ l.0 h), λ h. l.1 (w.keys ∙ ap (map path_keys) h)),
     )
 
-pub never_alarms : (reader : Reader) (given : Bool) (s : StateMaps) (c : ContractTree) (clear unreached : Bool) (out : List ℕ) → TellsOfTree reader given s c clear unreached out → clear ≡ true → NeverAlarms s c
-never_alarms reader given s c clear unreached out h e =
-    let none : (kind : AlarmKind) → IsSilent (without_runs h.0) kind = λ kind. subst (λ (found : Alarms). IsSilent (without_runs found) kind) (sym (h.7.0 e)) tt in
-    (λ kind. h.5.warnings kind (none kind), h.5.numbers (none Leaves128))
+pub never_alarms : (telling : Telling) (given : Bool) (s : StateMaps) (c : ContractTree) (clear unreached : Bool) (out : List ℕ) → TellsOfTree telling given s c clear unreached out → clear ≡ true → NeverAlarms s c
+never_alarms telling given s c clear unreached out h e =
+    let none : (kind : AlarmKind) → IsSilent (without_runs h.0) kind = λ kind. subst (λ (found : Alarms). IsSilent (without_runs found) kind) (sym (h.11.0 e)) tt in
+    (λ kind. h.6.warnings kind (none kind), h.6.numbers (none Leaves128))

@@ -1,9 +1,9 @@
-mod LinesLemmas
 mod KeyLemmas
 mod OrderLemmas
 mod RunsLemmas
 mod RangesLemmas
 mod WrittenLemmas
 mod UnreachedLemmas
+mod OnceLemmas
 mod AnalysedLemmas
 mod ReadLemmas

@@ -1,6 +1,6 @@
 -- What is told of all alarms.
 use Rattle.std.proofs.Common.{◌≡◌, ℕ, zero, suc, ◌+◌, ◌<◌, ◌≤◌, List, [], ◌∷◌, ◌++◌, map, length, false, refl, sym, ap, ◌∙◌, subst, Option, IfSome, ◌⊎◌, inl, inr, arith}
-use Rattle.std.specs.Prelude.{All, Contains}
+use Rattle.std.specs.Prelude.{All, Contains, is_some}
 use Rattle.std.specs.List.{AllByRecursion}
 use Rattle.std.specs.List.Sorted.{IsSortedByKey}
 use Rattle.std.specs.declared.cmp.Ordering.TheVariants.{Less}
@@ -15,11 +15,12 @@ use Rattle.analysis_spec.specs.declared.alarm.Alarm.{Alarm}
 use Rattle.analysis_walk.proofs.ListLaws.{all_append}
 use Rattle.analysis_spec.specs.PlacedRuns.{EndsAt}
 use Rattle.marlowe_analyse.specs.declared.order.Standing.{Standing}
-use Rattle.marlowe_analyse.specs.declared.told.ToldAlarm.{ToldAlarm}
+use Rattle.analysis_lines.specs.declared.told.ToldAlarm.{ToldAlarm}
 use Rattle.marlowe_analyse.specs.Order.{alarm_key, key_cmp, IsBefore, AreInOrder}
 use Rattle.marlowe_analyse.specs.OrderSupport.{HasKey, StandForAll, IsNewAt, IsOldAt, IsUpTo}
-use Rattle.marlowe_analyse.specs.Told.{Alarms, without_runs}
-use Rattle.marlowe_analyse.specs.ToldLines.{line_at, line_of, LineFits}
+use Rattle.marlowe_analyse.specs.Told.{Alarms, seen_alarm, without_runs}
+use Rattle.analysis_lines.specs.ToldLines.{line_at, line_of, LineFits}
+use Rattle.marlowe_analyse.specs.OnceSupport.{seen_told}
 use Rattle.marlowe_analyse.specs.RunsSupport.{TellsOf, TellsAll}
 use Rattle.marlowe_analyse.proofs.KeyLemmas.{same_alarm_by_key}
 use Rattle.marlowe_analyse.proofs.OrderLemmas.{before, ordered_more, up_to_more, ties}
@@ -41,7 +42,7 @@ module _ (s : StateMaps) (c : ContractTree) (ss : List Standing) where
   pub none_told : TellsOf s c ss 0 []
   none_told = record {
     all = [];
-    so = record { lines = refl; ends = tt; fit = All-nil LineFits };
+    so = record { lines = refl; seen = refl; ends = tt; fit = All-nil LineFits };
     has = λ i t l e. absurd (omega (arith, l));
     ordered = tt;
     up_to = λ i t e f. absurd (omega (arith, e));
@@ -60,8 +61,8 @@ module _ (s : StateMaps) (c : ContractTree) (ss : List Standing) where
     abbrev earlier : (i : ℕ) → i + 1 ≡ n → (p : Standing) × (p ≡ get_or ss i p)
     earlier i e = let p = get_or ss i t in (p, get_or_default ss i t p (omega (arith, few, e)))
 
-    pub told_one_more : (x : ToldAlarm) → IsNewAt ss n → line_of x ≡ line_at c (t.alarm.now, x.run) → IfSome x.run (EndsAt t.alarm.now.kind t.alarm.now.place s c) → LineFits x → TellsOf s c ss (n + 1) (told ++ x ∷ [])
-    told_one_more x new line ends fits =
+    pub told_one_more : (x : ToldAlarm) → IsNewAt ss n → line_of x ≡ line_at c (t.alarm.now, x.run) → x.alarm ≡ t.alarm.now → IfSome x.run (EndsAt t.alarm.now.kind t.alarm.now.place s c) → LineFits x → TellsOf s c ss (n + 1) (told ++ x ∷ [])
+    told_one_more x new line own ends fits =
         let b = t.alarm.now in
         let one : Alarm × Option (List Transaction) = (b, x.run) in
         let more : Alarms = h.all ++ one ∷ [] in
@@ -70,6 +71,7 @@ module _ (s : StateMaps) (c : ContractTree) (ss : List Standing) where
           all = more;
           so = record {
             lines = map-append line_of told (x ∷ []) ∙ (ap (λ ls. ls ++ line_of x ∷ []) h.so.lines ∙ (ap (λ z. map (line_at c) h.all ++ z ∷ []) line ∙ sym (map-append (line_at c) h.all (one ∷ []))));
+            seen = map-append seen_told told (x ∷ []) ∙ (ap (λ zs. zs ++ seen_told x ∷ []) h.so.seen ∙ (ap (λ (a : Alarm). map seen_alarm h.all ++ (a, is_some x.run) ∷ []) own ∙ sym (map-append seen_alarm h.all (one ∷ []))));
             ends = all_append (λ (a : Alarm × Option (List Transaction)). IfSome a.1 (EndsAt a.0.kind a.0.place s c)) h.all (one ∷ []) h.so.ends (ends, tt);
             fit = All-push LineFits told x h.so.fit fits;
           };

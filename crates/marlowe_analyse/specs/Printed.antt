@@ -1,33 +1,40 @@
 -- What is printed of a contract's text and a state's.
-use Rattle.std.specs.Prelude.{◌≡◌, ◌↔◌, ℕ, ℤ, Bool, true, false, List, [], ◌++◌, map, Option, is_some, Result, Ok}
+use Rattle.std.specs.Prelude.{◌≡◌, ◌↔◌, ℕ, ℤ, Bool, true, false, not, ◌||◌, if◌then◌else◌, List, [], map, Option, option_map, IfSome, is_some, Result, Ok}
 use Rattle.collections.specs.Answers.{◌>>=◌}
 use Rattle.contract.specs.Tree.{ContractTree, contract_tree}
 use Rattle.states.specs.States.{StateMaps}
 use Rattle.json_read_names.specs.ReadsText.{of_text_within}
 use Rattle.json_read_contracts.specs.ReadsContract.{contract}
-use Rattle.analysis_spec.specs.declared.paid.PaidRange.{PaidRange}
 use Rattle.analysis_spec.specs.declared.path.PathStep.{PathStep}
-use Rattle.losses.specs.declared.loss.Loss.{Loss}
+use Rattle.bound_runs.specs.declared.shown.ShownRange.{ShownRange}
+use Rattle.bound_runs.specs.declared.shown.ShownLoss.{ShownLoss}
+use Rattle.bound_runs.specs.Told.{AreReached, AreLost, ranges_of, losses_of}
 use Rattle.places.specs.declared.key.Key.{Key}
 use Rattle.places.specs.Places.{path_keys}
 use Rattle.marlowe_refusals.specs.declared.fault.RunFault.{RunFault}
 use Rattle.marlowe_refusals.specs.Faults.{read_as, contract_fault, state_fault}
-use Rattle.marlowe_analyse.specs.declared.analysed.Reader.{Reader}
-use Rattle.marlowe_analyse.specs.declared.analysed.Reader.TheVariants.{People, Tools, PeopleWithoutRuns, ToolsWithoutRuns}
 use Rattle.marlowe_run.specs.declared.readable.Readable.{Readable}
 use Rattle.marlowe_run.specs.Start.{start_of}
-use Rattle.marlowe_analyse.specs.Told.{Alarms, IsSo, NeverAlarms}
-use Rattle.marlowe_analyse.specs.ToldLines.{Line, line_at}
-use Rattle.marlowe_analyse.specs.Lines.{lines_of, out_line, losses_lines, start_line}
-use Rattle.marlowe_analyse.specs.Tools.{told_line}
+use Rattle.alike_alarms.specs.Alike.{AreHeads}
+use Rattle.analysis_lines.specs.ToldLines.{Line, line_at, with_heads}
+use Rattle.analysis_lines.specs.Lines.{told_lines}
+use Rattle.analysis_lines.specs.Tools.{told_line}
+use Rattle.marlowe_analyse.specs.declared.analysed.Telling.{Telling}
+use Rattle.marlowe_analyse.specs.Told.{Alarms, seen_alarm, IsSo, NeverAlarms}
 
--- alarms, parts to which no run comes, ranges, from when on all can be taken out, and what parties can lose; for people also that runs start without accounts, where
--- no state is given, and for tools the minimum time where all can be taken out at once
-abbrev pub printed : Reader → Bool → ℤ → List Line → List (List Key) → List PaidRange → Option (Option ℤ) → Option (List Loss) → List ℕ
-printed People given first lines places ranges out losses = lines_of true lines places ranges ++ (out_line out ++ (losses_lines given losses ++ start_line given))
-printed Tools given first lines places ranges out losses = told_line true first lines places ranges out losses
-printed PeopleWithoutRuns given first lines places ranges out losses = lines_of false lines places ranges ++ (out_line out ++ (losses_lines given losses ++ start_line given))
-printed ToolsWithoutRuns given first lines places ranges out losses = told_line false first lines places ranges out losses
+-- JSON for tools, or lines for people
+abbrev pub printed : Telling → Bool → StateMaps → ContractTree → List Line → List (List Key) → List ShownRange → Option (Option ℤ) → Option (List ShownLoss) → List ℕ
+printed telling given s c lines places ranges out losses =
+    if telling.tools then told_line telling.runs telling.notes s c lines places ranges out losses
+    else told_lines telling.runs telling.notes given s c lines places ranges out losses
+
+-- of alarms of one kind at equal parts people are told one, with how many others there are, unless all are wanted
+abbrev pub AreHeadsIf : Bool → ContractTree → Alarms → List (Option ℕ) → Type 0
+AreHeadsIf true c alarms found = AreHeads c (map seen_alarm alarms) found
+AreHeadsIf false c alarms found = found ≡ []
+
+abbrev pub AreHeadsFor : Telling → ContractTree → Alarms → List (Option ℕ) → Type 0
+AreHeadsFor telling = AreHeadsIf (not (telling.tools || telling.all))
 
 -- the contract is read first, within its depth, and then the state, whose numbers may be texts where that is said
 abbrev pub what_is_read : Readable → List ℕ → Option (List ℕ) → Result (StateMaps × ContractTree) RunFault
@@ -45,15 +52,16 @@ IsReadAs readable text start s c = what_is_read readable text start ≡ Ok (s, c
 
 -- what is printed tells what is so of a contract and a state. It is said to be clear where there is no alarm, and to have
 -- unreached parts where one is told
-abbrev pub TellsOfTree : Reader → Bool → StateMaps → ContractTree → Bool → Bool → List ℕ → Type 0
-TellsOfTree reader given s c clear unreached out =
-    (alarms : Alarms) × (places : List (List PathStep)) × (ranges : List PaidRange) × (time : Option (Option ℤ)) × (losses : Option (List Loss)) × IsSo s c alarms places ranges time losses
-    × (out ≡ printed reader given s.min_time (map (line_at c) alarms) (map path_keys places) ranges time losses)
+abbrev pub TellsOfTree : Telling → Bool → StateMaps → ContractTree → Bool → Bool → List ℕ → Type 0
+TellsOfTree telling given s c clear unreached out =
+    (alarms : Alarms) × (found : List (Option ℕ)) × (places : List (List PathStep)) × (ranges : List ShownRange) × (time : Option (Option ℤ)) × (losses : Option (List ShownLoss))
+    × IsSo s c alarms places (ranges_of ranges) time (option_map losses_of losses) × AreReached s c ranges × IfSome losses (AreLost s c) × AreHeadsFor telling c alarms found
+    × (out ≡ printed telling given s c (with_heads (map (line_at c) alarms) found) (map path_keys places) ranges time losses)
     × (clear ≡ true ↔ alarms ≡ []) × (unreached ≡ false ↔ places ≡ [])
 
 -- .. of those that the texts are read as
-abbrev pub TellsSo : Reader → Readable → List ℕ → Option (List ℕ) → Bool → Bool → List ℕ → Type 0
-TellsSo reader readable text start clear unreached out = (s : StateMaps) (c : ContractTree) → IsReadAs readable text start s c → TellsOfTree reader (is_some start) s c clear unreached out
+abbrev pub TellsSo : Telling → Readable → List ℕ → Option (List ℕ) → Bool → Bool → List ℕ → Type 0
+TellsSo telling readable text start clear unreached out = (s : StateMaps) (c : ContractTree) → IsReadAs readable text start s c → TellsOfTree telling (is_some start) s c clear unreached out
 
 -- it never warns, and stays within 128 bits
 abbrev pub IsClear : Readable → List ℕ → Option (List ℕ) → Type 0

@@ -13,21 +13,23 @@ use Rattle.marlowe_refusals.specs.declared.fault.RunFault.{RunFault}
 use Rattle.marlowe_refusals.specs.Faults.{read_as, state_fault}
 use Rattle.marlowe_run.specs.Start.{start_of}
 use Rattle.marlowe_analyse.specs.declared.analysed.Analysed.{Analysed}
-use Rattle.marlowe_analyse.specs.declared.analysed.Reader.{Reader}
+use Rattle.marlowe_analyse.specs.declared.analysed.Telling.{Telling}
 use Rattle.marlowe_analyse.specs.declared.order.Standing.{Standing}
-use Rattle.marlowe_analyse.specs.declared.told.ToldAlarm.{ToldAlarm}
+use Rattle.analysis_lines.specs.declared.told.ToldAlarm.{ToldAlarm}
 use Rattle.marlowe_analyse.specs.declared.unreached.Spot.{Spot}
 use Rattle.places.specs.declared.key.Key.{Key}
 use Rattle.places.specs.Places.{path_keys}
 use Rattle.marlowe_analyse.specs.Order.{place_key, AreInOrder, StandApart}
 use Rattle.marlowe_analyse.specs.OrderSupport.{IsUpTo}
-use Rattle.marlowe_analyse.specs.Told.{Alarms, without_runs, EndSo}
-use Rattle.marlowe_analyse.specs.ToldLines.{line_at, line_of, LineFits}
+use Rattle.marlowe_analyse.specs.Told.{Alarms, seen_alarm, without_runs, EndSo}
+use Rattle.analysis_lines.specs.ToldLines.{line_at, line_of, LineFits}
+use Rattle.marlowe_analyse.specs.OnceSupport.{seen_told}
 use Rattle.marlowe_analyse.specs.Printed.{TellsOfTree}
 
 -- what is told of alarms, each of them: with runs that end in them, which JSON has
 pub record AreTold (s : StateMaps) (c : ContractTree) (told : List ToldAlarm) (all : Alarms) : Type 0 where
   pub lines : map line_of told ≡ map (line_at c) all
+  pub seen : map seen_told told ≡ map seen_alarm all
   pub ends : EndSo s c all
   pub fit : All LineFits told
 
@@ -87,12 +89,12 @@ pub record HoldRanges (s : StateMaps) (c : ContractTree) (ranges : List PaidRang
 
 -- ---- a contract, and the state from which it starts
 
-abbrev pub TellsFrom : Reader → Bool → ContractTree → Result StateMaps JsonFault → Bool → Bool → List ℕ → Type 0
-TellsFrom reader given c start clear unreached out = (s : StateMaps) → start ≡ Ok s → TellsOfTree reader given s c clear unreached out
+abbrev pub TellsFrom : Telling → Bool → ContractTree → Result StateMaps JsonFault → Bool → Bool → List ℕ → Type 0
+TellsFrom telling given c start clear unreached out = (s : StateMaps) → start ≡ Ok s → TellsOfTree telling given s c clear unreached out
 
 -- .. that starts in the state of a text, if there is one
-abbrev pub AnalysedFrom : Reader → Bool → ContractTree → Option (List ℕ) → Analysed → Type 0
-AnalysedFrom reader texts c start told = TellsFrom reader (is_some start) c (start_of texts start) told.is_clear told.has_unreached told.text.items
+abbrev pub AnalysedFrom : Telling → Bool → ContractTree → Option (List ℕ) → Analysed → Type 0
+AnalysedFrom telling texts c start told = TellsFrom telling (is_some start) c (start_of texts start) told.is_clear told.has_unreached told.text.items
 
 -- or why there is no state
 abbrev pub is_started : Result StateMaps JsonFault → Result (Unit {0}) RunFault

@@ -1,5 +1,5 @@
 -- What is told of a contract and the state in which it starts, and when that is so.
-use Rattle.std.specs.Prelude.{◌≡◌, ℕ, ℤ, List, map, Option, Some, None, IfSome, option_map}
+use Rattle.std.specs.Prelude.{◌≡◌, ℕ, ℤ, List, map, Option, Some, None, IfSome, option_map, is_some}
 use Rattle.std.specs.Borrow.{Bor}
 use Rattle.std.specs.List.{AllByRecursion}
 use Rattle.contract.specs.Tree.{ContractTree}
@@ -14,6 +14,7 @@ use Rattle.analysis_spec.specs.declared.paid.PaidRange.{PaidRange}
 use Rattle.analysis_spec.specs.declared.path.PathStep.{PathStep}
 use Rattle.analysis_spec.specs.Analysed.{IsSilent, NamesWhatComes, NamesWhereItComes, StaysUnlessTold, NamesWhereItLeaves, AreNeverReached, PaysWithinRanges, PaysOthersNothing}
 use Rattle.analysis_spec.specs.PlacedRuns.{EndsAt}
+use Rattle.alike_alarms.specs.Alike.{SeenAlarm}
 use Rattle.counter_runs.specs.Closing.{CanClose}
 use Rattle.closing_times.specs.Closing.{ClosesFrom}
 use Rattle.losses.specs.declared.loss.Loss.{Loss}
@@ -23,6 +24,10 @@ use Rattle.marlowe_analyse.specs.Order.{AreInOrder, StandApart}
 -- alarms, and of each a run that ends in it where one is known
 abbrev pub Alarms : Type 0
 Alarms = List (Alarm × Option (List Transaction))
+
+-- an alarm, and whether it has a run
+abbrev pub seen_alarm : Alarm × Option (List Transaction) → SeenAlarm
+seen_alarm a = (a.0, is_some a.1)
 
 abbrev pub without_runs : Alarms → List Alarm
 without_runs = map (λ (a : Alarm × Option (List Transaction)). a.0)

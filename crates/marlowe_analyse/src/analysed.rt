@@ -1,23 +1,23 @@
 //! The analysis of a contract, from text to text.
-ghost use Rattle.std.specs.Prelude.{◌≡◌, ◌++◌, true, map, All, IfOk};
+ghost use Rattle.std.specs.Prelude.{◌≡◌, true, not, ◌||◌, map, All, IfOk, IfSome};
 ghost use Rattle.collections.specs.Answers.{AsideBy};
 ghost use Rattle.contract.specs.Tree.{contract_tree};
 ghost use Rattle.marlowe_run.specs.Start.{start_of};
+ghost use Rattle.bound_runs.specs.Told.{RangeHasNumbers, LossHasNumbers};
+ghost use Rattle.analysis_lines.specs.ToldLines.{line_of, LineFits};
 ghost use Rattle.marlowe_analyse.specs.Told.{text_given};
-ghost use Rattle.marlowe_analyse.specs.ToldLines.{line_of, LineFits};
-ghost use Rattle.marlowe_analyse.specs.Lines.{lines_of, out_line, losses_lines, start_line};
 ghost use Rattle.marlowe_analyse.specs.Printed.{printed, IsClear, TellsOfTree, TellsSo, is_read};
 ghost use Rattle.marlowe_analyse.specs.RunsSupport.{AnalysedFrom, is_started};
 
-use crate::lines::{put_alarms, put_losses, put_out, put_ranges, put_start, put_unreached};
+use crate::once::told_once;
 use crate::ranges::told_ranges;
-use crate::runs::{told_alarms, work_of};
+use crate::runs::{bounds_work_of, told_alarms, work_of};
 use crate::taken::{told_losses, told_out};
-use crate::told::Told;
-use crate::tools::put_told;
 use crate::unreached::told_places;
 use analysis::analyse;
+use analysis_lines::{Told, json_for_tools, lines_for_people};
 use analysis_walk::Analysis;
+use bound_runs::{Shown, with_runs};
 use collections::Memory;
 use contract::{Contract, State};
 use contract_json::read_contract_within;
@@ -25,18 +25,17 @@ use marlowe_refusals::RunFault;
 use marlowe_run::{Readable, beside_dropped, read_start};
 use std::alloc::Global;
 
-/// Who reads what is printed.
-#[derive(Clone, Copy, Debug)]
-pub enum Reader {
-    /// Lines for people: alarms with their runs, then parts to which no run comes, and then what is paid, from when on all can be
-    /// taken out, and what parties can lose.
-    People,
-    /// JSON for tools.
-    Tools,
-    /// Lines for people, of which those of alarms have no run: none is looked for.
-    PeopleWithoutRuns,
-    /// JSON for tools, in which alarms have no key `run`: none is looked for.
-    ToolsWithoutRuns,
+/// How an analysis is told.
+#[derive(Clone, Copy, Debug, PartialEq, Eq)]
+pub struct Telling {
+    /// JSON for tools, and else lines for people.
+    pub tools: bool,
+    /// Runs are looked for: those that end in alarms, and those that reach bounds.
+    pub runs: bool,
+    /// Each alarm is told in full, and else of alarms of one kind at equal parts the first that has a run. Tools are told all anyhow.
+    pub all: bool,
+    /// Notes on the contract are told too.
+    pub notes: bool,
 }
 
 /// What is printed of a contract, with a line feed at the end, whether it never warns and stays within 128 bits, and whether
@@ -50,27 +49,28 @@ pub struct Analysed {
 
 /// Analyses a contract from a state, both as JSON texts of at most 1,048,576 bytes; without a state its runs start
 /// without entries, at time 0. The contract nests no deeper than is readable, and a number of the state may be a text of its
-/// digits, as outcomes have it where JSON lacks it, where that is readable. Refused is a text that is no contract or no state. For each alarm it looks for a run
-/// that ends in it, unless the reader wants none. All searches together do no more work than the length of the texts allows.
-/// Alarms stand in the order of the contract, none twice, and so do the parts that are told to be never reached, none below
-/// another. A least is told only where a run is known that closes the contract. From when on all can be taken out is told
-/// exactly where there is no alarm of `Leaves128`, and so is what parties can lose: who isn't named loses nothing.
+/// digits, as outcomes have it where JSON lacks it, where that is readable. Refused is a text that is no contract or no state. Where runs
+/// are wanted, it looks for one that ends in each alarm, and one that reaches each bound above 0. All searches together do no more work than
+/// the length of the texts allows. Alarms stand in the order of the contract, none twice, and so do the parts that are told to be never
+/// reached, none below another. A least is told only where a run is known that closes the contract. From when on all can be taken out is
+/// told exactly where there is no alarm of `Leaves128`, and so is what parties can lose: who isn't named loses nothing. A run is told with a
+/// bound only where it comes to that very sum; of a least and of a loss it closes the contract.
 pub fn analyse_text(
     alloc: Global,
     contract: &[u8],
     state: Option<&[u8]>,
     readable: Readable,
-    reader: Reader,
+    telling: Telling,
 ) -> Result<Analysed, RunFault>
     ensures told { IfOk result (λ told.
-        TellsSo reader readable contract.now (text_given state.entry) told.is_clear told.has_unreached told.text.items) }
+        TellsSo telling readable contract.now (text_given state.entry) told.is_clear told.has_unreached told.text.items) }
     ensures clear { IfOk result (λ told. told.is_clear ≡ true → IsClear readable contract.now (text_given state.entry)) }
     ensures read { AsideBy RunFault.Memory (λ _. tt) result (is_read readable contract.now (text_given state.entry)) }
 {
     let length = contract.len().saturating_add(length_of(state));
     match read_contract_within(alloc, contract, readable.depth) {
         Ok(given) => {
-            let told = analysed_from(alloc, &given, state, readable.text_numbers, length, reader);
+            let told = analysed_from(alloc, &given, state, readable.text_numbers, length, telling);
             beside_dropped(given, told)
         }
         Err(fault) => Err(RunFault::of_contract(fault)),
@@ -84,15 +84,15 @@ fn analysed_from(
     state: Option<&[u8]>,
     texts: bool,
     length: usize,
-    reader: Reader,
+    telling: Telling,
 ) -> Result<Analysed, RunFault>
-    ensures told { IfOk result (AnalysedFrom reader texts (contract_tree contract.now) (text_given state.entry)) }
+    ensures told { IfOk result (AnalysedFrom telling texts (contract_tree contract.now) (text_given state.entry)) }
     ensures read { AsideBy RunFault.Memory (λ _. tt) result (is_started (start_of texts (text_given state.entry))) }
 {
     match read_start(alloc, state, texts) {
         Ok(first) => {
             let given = state.is_some();
-            let text = analysis_text(alloc, contract, &first, given, length, reader);
+            let text = analysis_text(alloc, contract, &first, given, length, telling);
             let told = beside_dropped(first, text)?;
             Ok(told)
         }
@@ -108,10 +108,10 @@ pub fn analysis_text(
     state: &State,
     given: bool,
     length: usize,
-    reader: Reader,
+    telling: Telling,
 ) -> Result<Analysed, Memory>
     ensures { IfOk result (λ told.
-        TellsOfTree reader given state.now (contract_tree contract.now) told.is_clear told.has_unreached told.text.items) }
+        TellsOfTree telling given state.now (contract_tree contract.now) told.is_clear told.has_unreached told.text.items) }
 {
     let Analysis {
         alarms,
@@ -120,11 +120,15 @@ pub fn analysis_text(
     } = analyse(alloc, contract, state)?;
     let out = told_out(contract, state, alarms.as_slice());
     let losses = told_losses(alloc, contract, state, alarms.as_slice())?;
-    let work = if has_runs(reader) { work_of(length) } else { 0 };
+    let work = work_of(length, telling.runs);
     let alarms = told_alarms(alloc, contract, state, alarms.as_slice(), work)?;
     let ranges = told_ranges(alloc, contract, state, ranges)?;
+    let work = bounds_work_of(length, telling.runs);
+    let Shown { ranges, losses } = with_runs(alloc, contract, state, ranges, losses, work)?;
     let unreached = told_places(alloc, unreached.as_slice())?;
     let is_clear = alarms.is_empty();
+    let once = is_told_once(telling);
+    let alarms = told_once(alloc, contract, alarms, once)?;
     let has_unreached = !unreached.is_empty();
     let told = Told {
         alarms,
@@ -133,7 +137,7 @@ pub fn analysis_text(
         out,
         losses,
     };
-    let text = printed(alloc, &told, given, state.min_time(), reader)?;
+    let text = printed(alloc, &told, contract, state, given, telling)?;
     Ok(Analysed {
         text,
         is_clear,
@@ -141,12 +145,11 @@ pub fn analysis_text(
     })
 }
 
-// Whether runs are looked for.
-fn has_runs(reader: Reader) -> bool {
-    match reader {
-        Reader::People | Reader::Tools => true,
-        Reader::PeopleWithoutRuns | Reader::ToolsWithoutRuns => false,
-    }
+// Whether of alarms of one kind at equal parts one is told.
+fn is_told_once(telling: Telling) -> bool
+    ensures { result ≡ not (telling.tools || telling.all) }
+{
+    !(telling.tools || telling.all)
 }
 
 fn length_of(state: Option<&[u8]>) -> usize {
@@ -159,34 +162,28 @@ fn length_of(state: Option<&[u8]>) -> usize {
 fn printed(
     alloc: Global,
     told: &Told,
+    contract: &Contract,
+    state: &State,
     given: bool,
-    first: i64,
-    reader: Reader,
+    telling: Telling,
 ) -> Result<Vec<u8>, Memory>
-    requires { All LineFits told.now.alarms.items }
-    ensures { IfOk result (λ text. text.items
-        ≡ printed reader given first (map line_of told.now.alarms.items) told.now.unreached told.now.ranges told.now.out told.now.losses) }
+    requires alarms { All LineFits told.now.alarms.items }
+    requires ranges { All RangeHasNumbers told.now.ranges }
+    requires losses { IfSome told.now.losses (All LossHasNumbers) }
+    ensures { IfOk result (λ text. text.items ≡ printed telling given state.now (contract_tree contract.now)
+        (map line_of told.now.alarms.items) told.now.unreached told.now.ranges told.now.out told.now.losses) }
 {
-    match reader {
-        Reader::People => for_people(alloc, told, given, true),
-        Reader::Tools => put_told(alloc, told, first, true),
-        Reader::PeopleWithoutRuns => for_people(alloc, told, given, false),
-        Reader::ToolsWithoutRuns => put_told(alloc, told, first, false),
+    if telling.tools {
+        json_for_tools(alloc, told, contract, state, telling.runs, telling.notes)
+    } else {
+        lines_for_people(
+            alloc,
+            told,
+            contract,
+            state,
+            given,
+            telling.runs,
+            telling.notes,
+        )
     }
-}
-
-fn for_people(alloc: Global, told: &Told, given: bool, runs: bool) -> Result<Vec<u8>, Memory>
-    requires { All LineFits told.now.alarms.items }
-    ensures { IfOk result (λ text. text.items
-        ≡ lines_of runs (map line_of told.now.alarms.items) told.now.unreached told.now.ranges
-        ++ (out_line told.now.out ++ (losses_lines given told.now.losses ++ start_line given))) }
-{
-    let mut out = Vec::new(alloc);
-    put_alarms(alloc, &mut out, &told.alarms, runs)?;
-    put_unreached(alloc, &mut out, told.unreached.as_slice())?;
-    put_ranges(alloc, &mut out, told.ranges.as_slice())?;
-    put_out(alloc, &mut out, told.out)?;
-    put_losses(alloc, &mut out, &told.losses, given)?;
-    put_start(&mut out, given)?;
-    Ok(out)
 }

@@ -2,13 +2,11 @@
 #![tactic(auto)]
 
 mod analysed;
-mod lines;
+mod once;
 mod order;
 mod ranges;
 mod runs;
 mod taken;
-mod told;
-mod tools;
 mod unreached;
 
-pub use analysed::{Analysed, Reader, analyse_text, analysis_text};
+pub use analysed::{Analysed, Telling, analyse_text, analysis_text};

@@ -5,13 +5,13 @@ ghost use Rattle.std.specs.List.Sorted.{IsSortedByKey};
 ghost use Rattle.contract.specs.Tree.{contract_tree};
 ghost use Rattle.contract_json.specs.WrittenInput.{input_fits, transaction_fits};
 ghost use Rattle.analysis_spec.specs.PlacedRuns.{EndsAt};
-ghost use Rattle.marlowe_analyse.specs.ToldLines.{line_at, line_of, LineFits, RunFits};
+ghost use Rattle.analysis_lines.specs.ToldLines.{line_at, line_of, LineFits, RunFits};
 ghost use Rattle.marlowe_analyse.specs.Order.{key_cmp};
 ghost use Rattle.marlowe_analyse.specs.OrderSupport.{HasKey};
 ghost use Rattle.marlowe_analyse.specs.RunsSupport.{TellsAll, TellsOf};
 
 use crate::order::{Standing, in_order, is_new};
-use crate::told::ToldAlarm;
+use analysis_lines::ToldAlarm;
 use analysis_spec::Alarm;
 use collections::{Items, Memory};
 use contract::{Contract, Input, State, Transaction};
@@ -25,9 +25,27 @@ const WORK: u64 = 1 << 22;
 
 const WORK_OF_A_BYTE: u64 = 64;
 
-/// The work that is spent on looking for runs, for texts of so many bytes.
-pub(crate) fn work_of(length: usize) -> u64 {
-    WORK.saturating_add((length as u64).saturating_mul(WORK_OF_A_BYTE))
+/// The work that is spent on looking for runs that end in alarms, for texts of so many bytes: none where no runs are wanted.
+pub(crate) fn work_of(length: usize, runs: bool) -> u64 {
+    if runs {
+        WORK.saturating_add((length as u64).saturating_mul(WORK_OF_A_BYTE))
+    } else {
+        0
+    }
+}
+
+// The work of the search for runs that reach bounds, likewise.
+const BOUNDS_WORK: u64 = 1 << 20;
+
+const BOUNDS_WORK_OF_A_BYTE: u64 = 8;
+
+/// The work that is spent on looking for runs that reach bounds.
+pub(crate) fn bounds_work_of(length: usize, runs: bool) -> u64 {
+    if runs {
+        BOUNDS_WORK.saturating_add((length as u64).saturating_mul(BOUNDS_WORK_OF_A_BYTE))
+    } else {
+        0
+    }
 }
 
 /// The alarms in the order of their places, none twice, each with a run that ends in it if one was found, by no more than
@@ -80,15 +98,28 @@ fn told_alarm(
     left: &mut u64,
 ) -> Result<ToldAlarm, Memory>
     ensures line { IfOk result (λ t. line_of t ≡ line_at (contract_tree contract.now) (alarm.now, t.run)) }
+    ensures seen { IfOk result (λ t. t.alarm ≡ alarm.now) }
     ensures ends { IfOk result (λ t. IfSome t.run (EndsAt alarm.now.kind alarm.now.place state.now (contract_tree contract.now))) }
     ensures fits { IfOk result LineFits }
 {
     let run = written_run(alloc, contract, state, alarm, others, left)?;
     let place = keys_of(alloc, contract, alarm.place.as_slice())?;
+    let alarm = copy_of(alloc, alarm)?;
     Ok(ToldAlarm {
-        kind: alarm.kind,
+        alarm,
         place,
         run,
+        head: Some(0),
+    })
+}
+
+fn copy_of(alloc: Global, alarm: &Alarm) -> Result<Alarm, Memory>
+    ensures { IfOk result (λ copy. copy ≡ alarm.now) }
+{
+    let place = Vec::from_slice(alloc, alarm.place.as_slice())?;
+    Ok(Alarm {
+        kind: alarm.kind,
+        place: Items::from_vec(place),
     })
 }
 

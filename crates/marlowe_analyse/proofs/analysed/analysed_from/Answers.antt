@@ -15,9 +15,9 @@ returns-in_ok-told-in-Ok c =
     let told = c.in_ok-told-in-Ok.told in
     let h = rw (← c.in_ok-told-in-Ok.ensures) at c.analysis_text-text.ensures in
     let given = c.is_some-given.ensures ∙ some_seen (λ t. t.now) c.args.state in
-    let g = subst (λ (b : Bool). TellsOfTree c.args.reader b c.in-Ok.first tree told.is_clear told.has_unreached told.text.items) given h in
+    let g = subst (λ (b : Bool). TellsOfTree c.args.telling b c.in-Ok.first tree told.is_clear told.has_unreached told.text.items) given h in
     record {
-      told = tells_from c.args.reader (is_some text) tree start c.in-Ok.first told.is_clear told.has_unreached told.text.items c.in-Ok.ensures.reading g;
+      told = tells_from c.args.telling (is_some text) tree start c.in-Ok.first told.is_clear told.has_unreached told.text.items c.in-Ok.ensures.reading g;
       read = started start c.in-Ok.first c.in-Ok.ensures.reading;
     }
 

@@ -3,7 +3,7 @@ use Rattle.std.proofs.lemmas.List.{take_all}
 use Rattle.std.proofs.lemmas.List.Elements.{All-more}
 use Rattle.contract.specs.declared.transaction.Transaction.{Transaction}
 use Rattle.contract_json.specs.WrittenInput.{transaction_fits}
-use Rattle.marlowe_analyse.specs.ToldLines.{RunFits}
+use Rattle.analysis_lines.specs.ToldLines.{RunFits}
 use Rattle.marlowe_analyse.proofs.runs.has_all_numbers.Goals as goal
 
 pub loop-transaction-preserved : goal.loop-transaction-preserved

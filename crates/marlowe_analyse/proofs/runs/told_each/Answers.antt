@@ -2,7 +2,7 @@ use Rattle.std.proofs.Common.{List, ◌+◌, sym, subst}
 use Rattle.std.proofs.Math.ListN.{get_or}
 use Rattle.std.proofs.lemmas.List.{get_or_default}
 use Rattle.contract.specs.Tree.{contract_tree}
-use Rattle.marlowe_analyse.specs.declared.told.ToldAlarm.{ToldAlarm}
+use Rattle.analysis_lines.specs.declared.told.ToldAlarm.{ToldAlarm}
 use Rattle.marlowe_analyse.specs.RunsSupport.{TellsOf}
 use Rattle.marlowe_analyse.proofs.RunsLemmas.{none_told, some_at, told_one_more, told_again}
 use Rattle.marlowe_analyse.proofs.runs.told_each.Goals as goal
@@ -28,7 +28,7 @@ loop-index-preserved c =
           let at = get_or ss n w.index-standings-index.result in
           let here = get_or_default ss n w.index-standings-index.result at few in
           let one = w.in_ok-one in
-          let more = told_one_more s t ss n told at few here c.requires.keys c.loop-index.invariant one.one (c.is_new.ensures.new w.if-is_new.true) one.ensures.line one.ensures.ends one.ensures.fits in
+          let more = told_one_more s t ss n told at few here c.requires.keys c.loop-index.invariant one.one (c.is_new.ensures.new w.if-is_new.true) one.ensures.line one.ensures.seen one.ensures.ends one.ensures.fits in
           rw w.told-is (subst (λ (ts : List ToldAlarm). TellsOf s t ss (n + 1) ts) (sym w.in_ok-push.ensures.items) more)
       | else-is_new w ↦
           let here = some_at ss n few in

@@ -1,0 +1,7 @@
+use Rattle.std.proofs.Common.{◌≡◌, ◌++◌, take}
+use Rattle.std.specs.Prelude.{flat_map}
+use Rattle.analysis_lines.specs.Lines.{range_line}
+use Rattle.analysis_lines.proofs.lines.put_ranges.Given as goal
+
+abbrev pub invariant-loop-range : goal.invariant-loop-range
+invariant-loop-range l = l.out.items ≡ l.fn.out.items ++ flat_map range_line (take l.range-index l.ranges)

@@ -1,0 +1,7 @@
+use Rattle.std.proofs.Common.{◌≡◌, ◌++◌, take}
+use Rattle.std.specs.Prelude.{flat_map}
+use Rattle.analysis_lines.specs.Lines.{transaction_line}
+use Rattle.analysis_lines.proofs.lines.put_transactions.Given as goal
+
+abbrev pub invariant-loop-transaction : goal.invariant-loop-transaction
+invariant-loop-transaction l = l.out.items ≡ l.fn.out.items ++ flat_map transaction_line (take l.transaction-index l.run)

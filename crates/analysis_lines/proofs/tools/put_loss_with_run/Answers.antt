@@ -1,0 +1,12 @@
+use Rattle.json_write_contracts.proofs.AddsLaws.{then, wrote}
+use Rattle.analysis_lines.proofs.tools.put_loss_with_run.Goals as goal
+
+pub returns : goal.returns
+returns c =
+    then (wrote c.in_ok-begin_object.ensures)
+    (then (wrote c.in_ok-key.ensures)
+    (then c.in_ok-put_bound.ensures
+    (then (wrote c.in_ok-key-2.ensures)
+    (then c.in_ok-put_party.ensures.put
+    (then (wrote c.in_ok-key-3.ensures)
+    (then c.in_ok-put_bound_run.ensures (then (wrote c.in_ok-key-4.ensures) (then c.in_ok-put_token.ensures.put (wrote c.in_ok-end_object.ensures)))))))))

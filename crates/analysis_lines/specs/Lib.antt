@@ -1,0 +1,3 @@
+pub mod ToldLines
+pub mod Lines
+pub mod Tools

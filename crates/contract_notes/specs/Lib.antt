@@ -1,0 +1,6 @@
+pub mod Reads
+pub mod Notes
+pub mod Parties
+pub mod Laws
+pub mod Coming
+pub mod Rows

@@ -1,6 +1,0 @@
-use Rattle.contract.specs.declared.value.Observation.{size-Observation}
-use Rattle.counter_runs.proofs.ends.«+narrow».Given as goal
-
--- what the parts need is less than what the whole needs
-abbrev pub decreases-narrow : goal.decreases-narrow
-decreases-narrow l = size-Observation l.observation.now

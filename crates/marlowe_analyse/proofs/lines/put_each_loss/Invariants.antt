@@ -1,7 +1,0 @@
-use Rattle.std.proofs.Common.{◌≡◌, ◌++◌, take}
-use Rattle.std.specs.Prelude.{flat_map}
-use Rattle.marlowe_analyse.specs.Lines.{loss_line}
-use Rattle.marlowe_analyse.proofs.lines.put_each_loss.Given as goal
-
-abbrev pub invariant-loop-loss : goal.invariant-loop-loss
-invariant-loop-loss l = l.out.items ≡ l.fn.out.items ++ flat_map (loss_line l.given) (take l.loss-index l.losses)

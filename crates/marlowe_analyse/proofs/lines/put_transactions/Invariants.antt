@@ -1,7 +1,0 @@
-use Rattle.std.proofs.Common.{◌≡◌, ◌++◌, take}
-use Rattle.std.specs.Prelude.{flat_map}
-use Rattle.marlowe_analyse.specs.Lines.{transaction_line}
-use Rattle.marlowe_analyse.proofs.lines.put_transactions.Given as goal
-
-abbrev pub invariant-loop-transaction : goal.invariant-loop-transaction
-invariant-loop-transaction l = l.out.items ≡ l.fn.out.items ++ flat_map transaction_line (take l.transaction-index l.run)

@@ -1,9 +1,0 @@
-use Rattle.std.proofs.Common.{take, map}
-use Rattle.json_write_contracts.specs.Tokens.{Adds}
-use Rattle.json_write_contracts.proofs.ListedLaws.{front}
-use Rattle.marlowe_analyse.specs.Tools.{loss_json}
-use Rattle.marlowe_analyse.proofs.tools.put_each_loss.Given as goal
-
--- the items so far are written
-abbrev pub invariant-loop-loss : goal.invariant-loop-loss
-invariant-loop-loss l = Adds l.initial.out l.out (front (map loss_json (take l.loss-index l.losses)))

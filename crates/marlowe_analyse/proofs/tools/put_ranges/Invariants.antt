@@ -1,9 +1,0 @@
-use Rattle.std.proofs.Common.{take, map}
-use Rattle.json_write_contracts.specs.Tokens.{Adds}
-use Rattle.json_write_contracts.proofs.ListedLaws.{front}
-use Rattle.marlowe_analyse.specs.Tools.{range_json}
-use Rattle.marlowe_analyse.proofs.tools.put_ranges.Given as goal
-
--- the items so far are written
-abbrev pub invariant-loop-range : goal.invariant-loop-range
-invariant-loop-range l = Adds l.initial.out l.out (front (map range_json (take l.range-index l.ranges)))

@@ -1,0 +1,5 @@
+mod SameLemmas
+mod ExactLemmas
+mod SumLemmas
+mod PlayedLemmas
+mod WorkedLemmas
