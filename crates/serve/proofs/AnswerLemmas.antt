@@ -1,0 +1,99 @@
+-- From parts of a line to its answer.
+use Rattle.std.proofs.Common.{◌≡◌, ℕ, List, Bool, true, false, Some, None, Result, Ok, Err, codes, refl, sym, subst}
+use Rattle.std.specs.declared.option.Option.{Option}
+use Rattle.contract.specs.declared.tree.Contract.{Contract}
+use Rattle.contract.specs.Tree.{contract_tree}
+use Rattle.contract_json.specs.PartAt.{part_at}
+use Rattle.serde_json.specs.Data.{Data}
+use Rattle.json_tree.specs.View.{read_within}
+use Rattle.json_tree.specs.declared.read.Refusal.{Refusal as Unread}
+use Rattle.json_tree.specs.declared.read.Refusal.TheVariants as unread
+use Rattle.json_read_contracts.specs.ReadsContract.{contract}
+use Rattle.json_write_contracts.specs.WrittenContract.{contract_fits}
+use Rattle.marlowe_run.specs.declared.readable.Readable.{Readable}
+use Rattle.definitions.specs.declared.definition.Definition.{Definition}
+use Rattle.definitions.specs.Named.{has_room, put_named}
+use Rattle.requests.specs.Ids.{SpellsId, id_of}
+use Rattle.requests.specs.Requests.{Asked, IsMember, is_object, request_of}
+use Rattle.requests.specs.declared.kind.Kind.{Kind}
+use Rattle.request_parts.proofs.FitLaws.{fit_member}
+use Rattle.request_parts.specs.Answered.{ok_answer, refused_answer}
+use Rattle.request_parts.specs.PartsSupport.{AllFit}
+use Rattle.request_parts.specs.declared.refusal.LineFault.TheVariants as lines
+use Rattle.request_parts.specs.declared.refusal.Refusal.{Refusal}
+use Rattle.request_parts.specs.declared.refusal.Refusal.TheVariants as refusals
+use Rattle.serve.specs.Answers.{IsAnswerOf, IsLineAnswer, TellsAsked, TellsRequest, TellsValue, answer_by}
+use Rattle.serve.specs.Playing.{Plays}
+use Rattle.serve.specs.Defining.{Changes, ChangesIfRoom, Puts, named_so}
+
+pub fit_request : (whole body : Data) → AllFit whole → IsMember whole body → AllFit body
+fit_request whole body h (key, is) = fit_member whole body key h (sym is)
+
+pub fit_line : ((n : ℕ) (text : List ℕ) (whole part : Data) (names : List (List ℕ)) (c : Contract) → read_within n text ≡ Some whole → part_at names whole ≡ Some part → contract part ≡ Ok c → contract_fits (contract_tree c) ≡ true)
+    → (n : ℕ) (text : List ℕ) (whole : Data) → read_within n text ≡ Some whole → AllFit whole
+fit_line law n text whole is = λ names part c at read. law n text whole part names c is at read
+
+-- a line with a value
+pub answers_value : (plays : Plays) (r : Readable) (defs after : List Definition) (number bytes : ℕ) (line : Result Data Unread) (d : Data) (text : List ℕ) → line ≡ Ok d
+    → IsAnswerOf plays r defs number bytes d text after → answer_by plays r defs number bytes line text after
+answers_value plays r defs after number bytes line d text is h = subst (λ l. answer_by plays r defs number bytes l text after) (sym is) h
+
+pub no_line : (refusal : Refusal) (id text : List ℕ) → SpellsId (id_of None) id → text ≡ refused_answer id refusal → IsLineAnswer refusal text
+no_line refusal id text spells is = record { id = id; spells = spells; is = is }
+
+-- .. and without one
+pub answers_none : (plays : Plays) (r : Readable) (defs after : List Definition) (number bytes : ℕ) (line : Result Data Unread) (text : List ℕ) → line ≡ Err unread.NotJson
+    → IsLineAnswer (refusals.Line lines.NotJson number) text → after ≡ defs → answer_by plays r defs number bytes line text after
+answers_none plays r defs after number bytes line text is h same = subst (λ l. answer_by plays r defs number bytes l text after) (sym is) (h, same)
+
+-- ---- a value
+
+value_known : (plays : Plays) (r : Readable) (defs after : List Definition) (number bytes : ℕ) (d : Data) (b : Bool) (id text : List ℕ) → SpellsId (id_of (Some d)) id → is_object d ≡ b
+    → TellsValue plays r defs number bytes d b id text after → IsAnswerOf plays r defs number bytes d text after
+value_known plays r defs after number bytes d b id text spells is h = record { id = id; spells = spells; tells = subst (λ (o : Bool). TellsValue plays r defs number bytes d o id text after) (sym is) h }
+
+asked_known : (plays : Plays) (r : Readable) (defs after : List Definition) (number bytes : ℕ) (d : Data) (asked : Option Asked) (id text : List ℕ) → SpellsId (id_of (Some d)) id → is_object d ≡ true → asked ≡ request_of d
+    → TellsRequest plays r defs number bytes asked id text after → IsAnswerOf plays r defs number bytes d text after
+asked_known plays r defs after number bytes d asked id text spells is asks h = value_known plays r defs after number bytes d true id text spells is (subst (λ (a : Option Asked). TellsRequest plays r defs number bytes a id text after) asks h)
+
+pub no_object : (plays : Plays) (r : Readable) (defs after : List Definition) (number bytes : ℕ) (d : Data) (id text : List ℕ) → SpellsId (id_of (Some d)) id → is_object d ≡ false → after ≡ defs
+    → text ≡ refused_answer id (refusals.Line lines.NoObject number) → IsAnswerOf plays r defs number bytes d text after
+no_object plays r defs after number bytes d id text spells is same says = value_known plays r defs after number bytes d false id text spells is (says, same)
+
+pub no_request : (plays : Plays) (r : Readable) (defs after : List Definition) (number bytes : ℕ) (d : Data) (id text : List ℕ) → SpellsId (id_of (Some d)) id → is_object d ≡ true → None ≡ request_of d → after ≡ defs
+    → text ≡ refused_answer id (refusals.Line lines.NoRequest number) → IsAnswerOf plays r defs number bytes d text after
+no_request plays r defs after number bytes d id text spells is asks same says = asked_known plays r defs after number bytes d None id text spells is asks (says, same)
+
+pub a_request : (plays : Plays) (r : Readable) (defs after : List Definition) (number bytes : ℕ) (d body : Data) (kind : Kind) (id text : List ℕ) → SpellsId (id_of (Some d)) id → is_object d ≡ true → Some (kind, body) ≡ request_of d
+    → TellsAsked plays r defs bytes kind body id text after → IsAnswerOf plays r defs number bytes d text after
+a_request plays r defs after number bytes d body kind id text spells is asks h = asked_known plays r defs after number bytes d (Some (kind, body)) id text spells is asks h
+
+pub ruleset line_steps = (fit_line, answers_value, no_line, answers_none)
+
+pub ruleset value_steps = (fit_request, no_object, no_request, a_request)
+
+-- ---- a contract gets a name
+
+abbrev room_known : (b room : Bool) → room ≡ b → (new defs : List Definition) (id text : List ℕ) (after : List Definition) → ChangesIfRoom b new defs id text after → ChangesIfRoom room new defs id text after
+room_known b room is new defs id text after h = subst (λ (r : Bool). ChangesIfRoom r new defs id text after) (sym is) h
+
+told_known : (bytes : ℕ) (defs after : List Definition) (id text : List ℕ) (told : Result (List ℕ × Contract) Refusal) (d : Definition) → told ≡ Ok (named_so d) → d.bytes ≡ bytes
+    → Puts d defs id text after → Changes bytes defs id told text after
+told_known bytes defs after id text told d is counts h = subst (λ t. Changes bytes defs id t text after) (sym is) (d, (refl, counts), h)
+
+-- there is room
+pub defines : (bytes : ℕ) (defs after : List Definition) (id text : List ℕ) (told : Result (List ℕ × Contract) Refusal) (d : Definition) → told ≡ Ok (named_so d) → d.bytes ≡ bytes
+    → has_room (put_named d defs) ≡ true → text ≡ ok_answer id (codes "true") → after ≡ put_named d defs → Changes bytes defs id told text after
+defines bytes defs after id text told d is counts room says new = told_known bytes defs after id text told d is counts (room_known true (has_room (put_named d defs)) room (put_named d defs) defs id text after (says, new))
+
+-- .. or none
+pub defines_none : (bytes : ℕ) (defs after : List Definition) (id text : List ℕ) (told : Result (List ℕ × Contract) Refusal) (d : Definition) → told ≡ Ok (named_so d) → d.bytes ≡ bytes
+    → has_room (put_named d defs) ≡ false → text ≡ refused_answer id refusals.Full → after ≡ defs → Changes bytes defs id told text after
+defines_none bytes defs after id text told d is counts room says same = told_known bytes defs after id text told d is counts (room_known false (has_room (put_named d defs)) room (put_named d defs) defs id text after (says, same))
+
+-- .. or no contract with a name stands there
+pub defines_nothing : (bytes : ℕ) (defs after : List Definition) (id text : List ℕ) (told : Result (List ℕ × Contract) Refusal) (refusal : Refusal) → told ≡ Err refusal
+    → text ≡ refused_answer id refusal → after ≡ defs → Changes bytes defs id told text after
+defines_nothing bytes defs after id text told refusal is says same = subst (λ t. Changes bytes defs id t text after) (sym is) (says, same)
+
+pub ruleset define_steps = (defines, defines_none, defines_nothing)

@@ -1,0 +1,83 @@
+-- What is told of what is asked, step by step.
+use Rattle.std.proofs.Common.{◌≡◌, ◌≢◌, ℕ, List, Bool, Result, Ok, Err, refl, sym, ap, ◌∙◌, subst}
+use Rattle.std.specs.declared.vec.Vec.{Vec}
+use Rattle.std.specs.declared.alloc.Global.{Global}
+use Rattle.contract.specs.Tree.{ContractTree}
+use Rattle.states.specs.States.{StateMaps}
+use Rattle.marlowe_refusals.specs.declared.fault.RunFault.TheVariants as run
+use Rattle.marlowe_refusals.specs.declared.trace_fault.TraceFault.{TraceFault}
+use Rattle.marlowe_refusals.specs.declared.trace_fault.TraceFault.TheVariants as trace
+use Rattle.marlowe_next.specs.declared.asked.Asked.{Asked}
+use Rattle.marlowe_next.specs.Answer.{IsAnswer}
+use Rattle.marlowe_next.specs.Question.{Reached, answered}
+use Rattle.marlowe_analyse.specs.declared.analysed.Telling.{Telling}
+use Rattle.marlowe_analyse.specs.Printed.{TellsOfTree}
+use Rattle.request_parts.specs.Answered.{ok_answer, refused_answer, without_feed}
+use Rattle.request_parts.specs.Refusals.{trace_refused}
+use Rattle.request_parts.specs.declared.refusal.Refusal.{Refusal}
+use Rattle.request_parts.specs.declared.refusal.Refusal.TheVariants as refusals
+use Rattle.serve.specs.Answers.{AnswersBy}
+use Rattle.serve.specs.Asking.{AnalysisPrints, NextPrints, Then}
+use Rattle.serve.specs.AskingSupport.{Told}
+use Rattle.serve.specs.Playing.{AnswersPlay, PlayTold, answer_seen, played_answer}
+use Rattle.serve.specs.declared.player.PlayAnswer.{PlayAnswer}
+
+abbrev Text : Type 0
+Text = Result (Vec ℕ Global) Refusal
+
+-- ---- a part of the request
+
+-- it is read
+pub tells_on : {X : Type 0} (Tells : X → Result (List ℕ) Refusal → Type 0) (part : Result X Refusal) (x y : X) (made result : Text) → part ≡ Ok x → y ≡ x → result ≡ made → Told (Tells y) made → Told (Then part Tells) result
+unfolding Then
+tells_on {X = X} Tells part x y made result is same gives h =
+    let here : Told (Tells x) result = subst (λ (z : X). Told (Tells z) result) same (subst (λ (t : Text). Told (Tells y) t) (sym gives) h) in
+    subst (λ (p : Result X Refusal). Told (Then p Tells) result) (sym is) here
+
+-- it isn't
+pub tells_why : {X : Type 0} (Tells : X → Result (List ℕ) Refusal → Type 0) (part : Result X Refusal) (refusal : Refusal) → (refusal ≢ refusals.Memory → part ≡ Err refusal) → Told (Then part Tells) (Err refusal)
+unfolding Told Then
+tells_why {X = X} Tells part refusal is = λ n. subst (λ (p : Result X Refusal). Then p Tells (Err refusal)) (sym (is n)) refl
+
+-- ---- what is printed
+
+pub next_prints : (q : Asked) (reached : Result Reached TraceFault) (line : List ℕ) (text : Vec ℕ Global) → IsAnswer q reached line → text.items ≡ without_feed line → Told (NextPrints q reached) (Ok text)
+unfolding Told
+next_prints q reached line text answers is = (line, answers, is)
+
+pub next_refused : (q : Asked) (reached : Result Reached TraceFault) (fault : TraceFault) (refusal : Refusal) → (fault ≢ trace.Run run.Memory → answered q reached ≡ Err fault) → refusal ≡ trace_refused fault
+    → Told (NextPrints q reached) (Err refusal)
+unfolding Told
+next_refused q reached fault refusal why is = λ n. (fault, why (λ e. n (is ∙ ap trace_refused e)), is)
+
+pub analysis_prints : (telling : Telling) (given clear unreached : Bool) (c : ContractTree) (s : StateMaps) (line : List ℕ) (text : Vec ℕ Global) → TellsOfTree telling given s c clear unreached line → text.items ≡ without_feed line
+    → Told (AnalysisPrints telling given c s) (Ok text)
+unfolding Told
+analysis_prints telling given clear unreached c s line text tells is = (clear, unreached, line, tells, is)
+
+pub prints_so : (telling asked : Telling) (given is_given : Bool) (c : ContractTree) (s : StateMaps) (result : Text) → telling ≡ asked → given ≡ is_given → Told (AnalysisPrints telling given c s) result → Told (AnalysisPrints asked is_given c s) result
+prints_so telling asked given is_given c s result is so h = subst (λ (g : Bool). Told (AnalysisPrints asked g c s) result) so (subst (λ (t : Telling). Told (AnalysisPrints t given c s) result) is h)
+
+pub analysis_memory : (telling : Telling) (given : Bool) (c : ContractTree) (s : StateMaps) → Told (AnalysisPrints telling given c s) (Err refusals.Memory)
+unfolding Told
+analysis_memory telling given c s = λ n. absurd (n refl)
+
+-- ---- what is answered
+
+pub answers_ok : (Tells : Result (List ℕ) Refusal → Type 0) (id line : List ℕ) (told : Text) (text : Vec ℕ Global) → Told Tells told → told ≡ Ok text → line ≡ ok_answer id text.items → AnswersBy Tells id line
+unfolding Told AnswersBy
+answers_ok Tells id line told text h is says = (Ok text.items, subst (λ (t : Text). Told Tells t) is h, says)
+
+pub answers_refused : (Tells : Result (List ℕ) Refusal → Type 0) (id line : List ℕ) (told : Text) (refusal : Refusal) → Told Tells told → told ≡ Err refusal → refusal ≢ refusals.Memory → line ≡ refused_answer id refusal
+    → AnswersBy Tells id line
+unfolding Told AnswersBy
+answers_refused Tells id line told refusal h is n says = (Err refusal, subst (λ (t : Text). Told Tells t) is h n, says)
+
+-- a play is told so
+pub plays_so : (Tells : PlayTold → Type 0) (id line : List ℕ) (answer : PlayAnswer) → Tells (answer_seen answer) → line ≡ played_answer id (answer_seen answer) → AnswersPlay Tells id line
+unfolding AnswersPlay
+plays_so Tells id line answer tells says = (answer_seen answer, tells, says)
+
+pub ruleset part_steps = (tells_on, tells_why)
+
+pub ruleset by_steps = (answers_ok, answers_refused)

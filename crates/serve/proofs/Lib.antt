@@ -1,0 +1,3 @@
+pub mod AskingLemmas
+pub mod AnswerLemmas
+pub mod StreamLemmas

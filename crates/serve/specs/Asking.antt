@@ -1,0 +1,92 @@
+-- What `next` and `analyse` print as JSON, of a request's parts.
+use Rattle.std.specs.Prelude.{◌≡◌, ℕ, ℤ, Bool, true, false, not, List, Option, Some, None, Result, Ok, Err, codes}
+use Rattle.std.specs.Option.{option_and_then}
+use Rattle.collections.specs.Answers.{◌>>=◌}
+use Rattle.contract.specs.declared.transaction.Transaction.{Transaction}
+use Rattle.contract.specs.Tree.{ContractTree, contract_tree}
+use Rattle.states.specs.States.{StateMaps}
+use Rattle.serde_json.specs.Data.{Data}
+use Rattle.serde_json.specs.Find.{get, as_bool}
+use Rattle.json_read_names.specs.Forms.{has}
+use Rattle.json_read_names.specs.Parts.{time}
+use Rattle.marlowe_refusals.specs.Faults.{read_as}
+use Rattle.marlowe_refusals.specs.declared.trace_fault.TraceFault.{TraceFault}
+use Rattle.marlowe_run.specs.declared.readable.Readable.{Readable}
+use Rattle.marlowe_next.specs.declared.asked.Asked.{Asked}
+use Rattle.marlowe_next.specs.Answer.{IsAnswer}
+use Rattle.marlowe_next.specs.Question.{Reached, answered, reached_by}
+use Rattle.marlowe_analyse.specs.declared.analysed.Telling.{Telling}
+use Rattle.marlowe_analyse.specs.Printed.{TellsOfTree}
+use Rattle.definitions.specs.declared.definition.Definition.{Definition}
+use Rattle.request_parts.specs.Answered.{without_feed}
+use Rattle.request_parts.specs.Parts.{contract_at, state_at, transactions_at}
+use Rattle.request_parts.specs.Refusals.{part_refused, trace_refused}
+use Rattle.request_parts.specs.declared.refusal.Part.{Part}
+use Rattle.request_parts.specs.declared.refusal.Part.TheVariants as parts
+use Rattle.request_parts.specs.declared.refusal.Refusal.{Refusal}
+
+-- a part is read, and then this is told; or why it isn't
+unfoldable pub Then : {X : Type 0} → Result X Refusal → (X → Result (List ℕ) Refusal → Type 0) → Result (List ℕ) Refusal → Type 0
+Then (Ok x) Tells told = Tells x told
+Then (Err refusal) Tells told = told ≡ Err refusal
+
+-- ---- what can be done next
+
+abbrev time_or : Part → Option Data → Result (Option ℤ) Refusal
+time_or p None = Ok None
+time_or p (Some d) = read_as (part_refused p) (time d) >>= λ t. Ok (Some t)
+
+-- a time at a key, if it is there
+abbrev pub time_at : Part → List ℕ → Data → Result (Option ℤ) Refusal
+time_at p key body = time_or p (get key body)
+
+-- the interval at the keys `from` and `to`
+abbrev pub asked_at : Readable → Data → Result Asked Refusal
+asked_at r body =
+    time_at parts.From (codes "from") body >>= λ from.
+    time_at parts.To (codes "to") body >>= λ to.
+    Ok (record { from = from; to = to; readable = r; json = true })
+
+-- what `next --json` prints of where transactions lead
+abbrev pub NextPrints : Asked → Result Reached TraceFault → Result (List ℕ) Refusal → Type 0
+NextPrints q reached (Ok text) = (line : List ℕ) × IsAnswer q reached line × (text ≡ without_feed line)
+NextPrints q reached (Err refusal) = (fault : TraceFault) × (answered q reached ≡ Err fault) × (refusal ≡ trace_refused fault)
+
+abbrev pub TellsNextBehind : Readable → ContractTree → StateMaps → Data → List Transaction → Result (List ℕ) Refusal → Type 0
+TellsNextBehind r c s body ts = Then (asked_at r body) (λ q. NextPrints q (reached_by c s ts))
+
+abbrev pub TellsNextFrom : Readable → ContractTree → Data → StateMaps → Result (List ℕ) Refusal → Type 0
+TellsNextFrom r c body s = Then (transactions_at (codes "after") body) (TellsNextBehind r c s body)
+
+abbrev pub TellsNextOf : Readable → Data → ContractTree → Result (List ℕ) Refusal → Type 0
+TellsNextOf r body c = Then (state_at r.text_numbers body) (TellsNextFrom r c body)
+
+-- for these parts
+abbrev pub TellsNext : Readable → List Definition → Data → Result (List ℕ) Refusal → Type 0
+TellsNext r defs body = Then (contract_at defs body) (λ c. TellsNextOf r body (contract_tree c))
+
+-- ---- an analysis
+
+abbrev is_true : Option Bool → Bool
+is_true (Some b) = b
+is_true None = false
+
+-- whether `true` stands at a key
+abbrev pub is_true_at : List ℕ → Data → Bool
+is_true_at key body = is_true (option_and_then as_bool (get key body))
+
+-- told to tools, with all alarms; without runs where `no_runs` is true, and with notes where `notes` is
+abbrev pub telling_of : Data → Telling
+telling_of body = record { tools = true; runs = not (is_true_at (codes "no_runs") body); all = true; notes = is_true_at (codes "notes") body }
+
+-- what `analyse --json` prints; it refuses nothing
+abbrev pub AnalysisPrints : Telling → Bool → ContractTree → StateMaps → Result (List ℕ) Refusal → Type 0
+AnalysisPrints telling given c s (Ok text) = (clear unreached : Bool) × (line : List ℕ) × TellsOfTree telling given s c clear unreached line × (text ≡ without_feed line)
+AnalysisPrints telling given c s (Err refusal) = ⊥
+
+abbrev pub TellsAnalysisOf : Bool → Data → ContractTree → Result (List ℕ) Refusal → Type 0
+TellsAnalysisOf texts body c = Then (state_at texts body) (AnalysisPrints (telling_of body) (has (codes "state") body) c)
+
+-- for these parts
+abbrev pub TellsAnalysis : Bool → List Definition → Data → Result (List ℕ) Refusal → Type 0
+TellsAnalysis texts defs body = Then (contract_at defs body) (λ c. TellsAnalysisOf texts body (contract_tree c))

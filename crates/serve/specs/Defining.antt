@@ -1,0 +1,63 @@
+-- Names that come and go.
+use Rattle.std.specs.Prelude.{◌≡◌, ℕ, Bool, true, false, List, Option, Some, None, Result, Ok, Err, codes}
+use Rattle.collections.specs.Answers.{◌>>=◌}
+use Rattle.contract.specs.declared.tree.Contract.{Contract}
+use Rattle.serde_json.specs.Data.{Data}
+use Rattle.json_read_names.specs.Parts.{Reading, reading_at}
+use Rattle.json_read_names.specs.declared.fault.JsonFault.TheVariants as json
+use Rattle.json_read_contracts.specs.ReadsContract.{contract}
+use Rattle.marlowe_refusals.specs.Faults.{read_as}
+use Rattle.definitions.specs.Named.{has_room, is_there, put_named, without_named}
+use Rattle.definitions.specs.declared.definition.Definition.{Definition}
+use Rattle.requests.specs.Requests.{sole_member}
+use Rattle.request_parts.specs.Answered.{ok_answer, refused_answer}
+use Rattle.request_parts.specs.Parts.{contract_refused}
+use Rattle.request_parts.specs.declared.refusal.Part.TheVariants as parts
+use Rattle.request_parts.specs.declared.refusal.Refusal.{Refusal}
+use Rattle.request_parts.specs.declared.refusal.Refusal.TheVariants as refusals
+
+abbrev one_member : Option (List ℕ × Data) → Result (List ℕ × Data) Refusal
+one_member None = Err (refusals.Part parts.Define json.NoForm)
+one_member (Some m) = Ok m
+
+abbrev pub named_by : List ℕ → Contract → List ℕ × Contract
+named_by name c = (name, c)
+
+-- a contract that is read gets this name
+abbrev pub named_reading : List ℕ → Reading Contract → Result (List ℕ × Contract) Refusal
+named_reading name reading = read_as contract_refused reading >>= λ c. Ok (named_by name c)
+
+-- a name and the contract that it is to have
+abbrev pub definition_told : Data → Result (List ℕ × Contract) Refusal
+definition_told body =
+    one_member (sole_member body) >>= λ m.
+    named_reading m.0 (reading_at contract body m.0)
+
+abbrev pub named_so : Definition → List ℕ × Contract
+named_so d = (d.name, d.contract)
+
+-- a contract of this name, of a line of so many bytes
+abbrev pub Names : List ℕ × Contract → ℕ → Definition → Type 0
+Names told bytes d = (told ≡ named_so d) × (d.bytes ≡ bytes)
+
+-- the names change where there is room
+abbrev pub ChangesIfRoom : Bool → List Definition → List Definition → List ℕ → List ℕ → List Definition → Type 0
+ChangesIfRoom true new defs id text after = (text ≡ ok_answer id (codes "true")) × (after ≡ new)
+ChangesIfRoom false new defs id text after = (text ≡ refused_answer id refusals.Full) × (after ≡ defs)
+
+abbrev pub Puts : Definition → List Definition → List ℕ → List ℕ → List Definition → Type 0
+Puts d defs id text after = ChangesIfRoom (has_room (put_named d defs)) (put_named d defs) defs id text after
+
+-- the names have one more, or it is told why they haven't
+abbrev pub Changes : ℕ → List Definition → List ℕ → Result (List ℕ × Contract) Refusal → List ℕ → List Definition → Type 0
+Changes bytes defs id (Ok told) text after = (d : Definition) × Names told bytes d × Puts d defs id text after
+Changes bytes defs id (Err refusal) text after = (text ≡ refused_answer id refusal) × (after ≡ defs)
+
+abbrev truth : Bool → List ℕ
+truth true = codes "true"
+truth false = codes "false"
+
+-- a name is taken away, and it is told whether it was there
+abbrev pub Forgets : List Definition → List ℕ → Option (List ℕ) → List ℕ → List Definition → Type 0
+Forgets defs id (Some name) text after = (text ≡ ok_answer id (truth (is_there name defs))) × (after ≡ without_named name defs)
+Forgets defs id None text after = (text ≡ refused_answer id (refusals.Part parts.Forget json.NoForm)) × (after ≡ defs)

@@ -1,0 +1,10 @@
+pub mod Commands
+pub mod Asking
+pub mod AskingSupport
+pub mod Reading
+pub mod Encoding
+pub mod Defining
+pub mod Playing
+pub mod Answers
+pub mod Streams
+pub mod StreamsSupport

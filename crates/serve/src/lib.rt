@@ -1,0 +1,20 @@
+//! Requests that come one a line, and their answers, one a line too.
+//!
+//! `answer` has the answer to one line: it is a function of the line, its number and the contracts that are named, as
+//! `specs/Answers.antt` says, and what it tells is what the commands print. `serve` reads lines from a source and writes their answers to a
+//! sink. Scenarios are played by a `Player` that is given to `answer_with` and `serve_with`; the other two have none.
+#![tactic(auto)]
+
+mod analysing;
+mod asking;
+mod commands;
+mod defining;
+mod encoding;
+mod line_answers;
+mod player;
+mod reading;
+mod stream;
+
+pub use line_answers::{answer, answer_too_long, answer_with};
+pub use player::{NoPlayer, PlayAnswer, Player};
+pub use stream::{Ended, serve, serve_with};

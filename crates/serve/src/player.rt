@@ -1,0 +1,56 @@
+//! Who plays the scenarios of requests.
+ghost use Rattle.std.specs.Prelude.{ℕ, List, Result, IfOk};
+ghost use Rattle.std.specs.Thread.{IsSync};
+ghost use Rattle.json_tree.specs.View.{view};
+ghost use Rattle.marlowe_run.specs.declared.readable.Readable.{Readable};
+ghost use Rattle.serde_json.specs.Data.{Data};
+ghost use Rattle.serve.specs.Playing.{answer_seen, no_play};
+
+use collections::Memory;
+use json_tree::Json;
+use marlowe_run::Readable;
+use refusal_objects::named_members;
+use std::alloc::Global;
+
+/// What is told of what stands at `play`.
+#[derive(Drop)]
+pub enum PlayAnswer {
+    /// It was played: JSON values, one a line, each with a line feed.
+    Told(Vec<u8>),
+    /// It wasn't: the members of the object that says why.
+    Refused(Vec<u8>),
+}
+
+/// Who plays the scenarios of requests. Of a player the stream asks nothing but that a call tells what may be told of its request: a
+/// call that waits is waited for.
+pub trait Player {
+    /// What it plays on, which threads may share.
+    type Runtime: Sync;
+
+    /// What may be told of what stands at `play`: lines, or members.
+    ghost tells: { Readable → Data → Result (List ℕ) (List ℕ) → Type 0 };
+
+    /// Plays what stands at `play`. Only a growth that was refused gives `Memory`.
+    fn play(&self, alloc: Global, readable: Readable, body: &Json<'_>) -> Result<PlayAnswer, Memory>
+        requires { IsSync Self.Runtime.row }
+        ensures { IfOk result (λ answer. tells readable (view body.now) (answer_seen answer)) };
+}
+
+/// The player that plays nothing: each scenario is refused.
+#[derive(Clone, Copy, Debug)]
+pub struct NoPlayer;
+
+impl Player for NoPlayer {
+    type Runtime = ();
+
+    ghost tells = { no_play };
+
+    fn play(
+        &self,
+        alloc: Global,
+        _readable: Readable,
+        _body: &Json<'_>,
+    ) -> Result<PlayAnswer, Memory> {
+        Ok(PlayAnswer::Refused(named_members(alloc, "play", "Unsupported")?))
+    }
+}
