@@ -5,6 +5,7 @@ use Rattle.json_read_names.specs.declared.fault.JsonFault.TheVariants as json
 use Rattle.json_read_names.specs.Parts.{Reading}
 use Rattle.plans.specs.declared.scenario.Scenario.{Scenario as ScenarioRead}
 use Rattle.marlowe_refusals.specs.Refusals.{json_fault_name}
+use Rattle.setup_refusals.specs.SetupRefusals.{setup_line}
 use Rattle.marlowe_play.specs.declared.fault.PlayFault.{PlayFault}
 use Rattle.marlowe_play.specs.declared.fault.PlayFault.TheVariants.{Scenario, Setup, Memory}
 
@@ -26,5 +27,5 @@ IsRefused (Err fault) result = MatchResult result (λ text. ⊥) (λ told. told 
 -- the line of a fault
 abbrev pub play_refusal_text : PlayFault → List ℕ
 play_refusal_text (Scenario fault) = codes "refused scenario " ++ json_fault_name fault
-play_refusal_text (Setup line) = line.items
+play_refusal_text (Setup refusal) = setup_line refusal
 play_refusal_text Memory = codes "refused Memory"

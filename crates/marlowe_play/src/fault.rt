@@ -4,7 +4,7 @@ ghost use Rattle.marlowe_play.specs.Faults.{IsOfText, scenario_fault};
 ghost use Rattle.marlowe_play.specs.declared.fault.PlayFault.TheVariants as playing;
 
 use json_read_names::JsonFault;
-use play_setup::SetupFault;
+use play_setup::{SetupFault, SetupRefusal};
 use std::alloc::{AllocError, AllocFailed};
 use thiserror::Error;
 
@@ -14,10 +14,9 @@ pub enum PlayFault {
     /// The text is no scenario.
     #[error("scenario: {0}")]
     Scenario(JsonFault),
-    /// The setup has a fault, and nothing was played: the line that tells it, without a line feed. It is `refused genesis
-    /// FAULT`, `refused contract NAME FAULT` or `refused thread NAME FAULT`, where NAME is the name in the scenario.
+    /// The setup has a fault, and nothing was played: what is refused, and why.
     #[error("the setup is refused")]
-    Setup(Vec<u8>),
+    Setup(SetupRefusal),
     /// Memory was refused.
     #[error("memory was refused")]
     Memory,
@@ -56,7 +55,7 @@ impl From<SetupFault> for PlayFault {
 
     fn from(fault: SetupFault) -> PlayFault {
         match fault {
-            SetupFault::Refused(line) => PlayFault::Setup(line),
+            SetupFault::Refused(refusal) => PlayFault::Setup(refusal),
             SetupFault::Memory => PlayFault::Memory,
         }
     }

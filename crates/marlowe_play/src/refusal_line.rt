@@ -5,6 +5,7 @@ ghost use Rattle.marlowe_play.specs.Faults.{play_refusal_text};
 use crate::fault::PlayFault;
 use collections::Memory;
 use marlowe_refusals::json_fault_name;
+use play_setup::setup_line;
 use std::alloc::Global;
 
 /// The line for a fault, without its line feed: `refused scenario NAME` where the JSON text has the fault, the line of the
@@ -18,7 +19,10 @@ pub fn play_refusal(alloc: Global, fault: &PlayFault) -> Result<Vec<u8>, Memory>
             line.extend_from_slice(json_fault_name(*fault).as_bytes())?;
             Ok(line)
         }
-        PlayFault::Setup(line) => Vec::from_slice(alloc, line.as_slice()),
+        PlayFault::Setup(refusal) => {
+            let line = setup_line(alloc, refusal)?;
+            Ok(line.into_bytes())
+        }
         PlayFault::Memory => Vec::from_slice(alloc, b"refused Memory"),
     }
 }

@@ -1,2 +1,3 @@
 pub mod SetUp
+pub mod Refusals
 pub mod SetUpSupport

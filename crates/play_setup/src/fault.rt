@@ -1,21 +1,21 @@
 //! Why a play isn't set up.
 use collections::Memory;
+use setup_refusals::SetupRefusal;
 use std::alloc::{AllocError, AllocFailed};
 
 /// Why a setup ends before its end.
 #[derive(Drop)]
 pub enum SetupFault {
-    /// It has a fault: the line that tells it, without a line feed. It is `refused genesis FAULT`, `refused contract NAME FAULT`
-    /// or `refused thread NAME FAULT`, where NAME is the name in the scenario.
-    Refused(Vec<u8>),
+    /// It has a fault: what is refused, and why.
+    Refused(SetupRefusal),
     /// Memory was refused.
     Memory,
 }
 
-// The fault of a setup with this line, or that there was no memory for it.
-pub(crate) fn refused(line: Result<String, Memory>) -> SetupFault {
-    match line {
-        Ok(line) => SetupFault::Refused(line.into_bytes()),
+// The fault of a setup with this refusal, or that there was no memory for it.
+pub(crate) fn refused(refusal: Result<SetupRefusal, Memory>) -> SetupFault {
+    match refusal {
+        Ok(refusal) => SetupFault::Refused(refusal),
         Err(_) => SetupFault::Memory,
     }
 }

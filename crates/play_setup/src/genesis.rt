@@ -2,10 +2,11 @@
 ghost use Rattle.std.specs.Prelude.{◌≡◌, [], map, IfOk};
 ghost use Rattle.play_setup.specs.SetUp.{course, key_output};
 
-use crate::fault::{SetupFault, refused};
+use crate::fault::SetupFault;
+use crate::refusals::genesis_refused;
 use collections::{Items, Memory, TryClone};
 use eutxo_types::{Lock, Output};
-use parties::{Chain, GenesisFault};
+use parties::Chain;
 use plans::Funds;
 use std::alloc::Global;
 
@@ -32,12 +33,4 @@ pub fn key_outputs(alloc: Global, genesis: &[Funds]) -> Result<Items<Output>, Me
         })?;
     }
     Ok(outputs)
-}
-
-fn genesis_refused(alloc: Global, fault: GenesisFault) -> SetupFault {
-    match fault {
-        GenesisFault::NotKey => refused(format!(in alloc; "refused genesis NotKey")),
-        GenesisFault::TooLarge => refused(format!(in alloc; "refused genesis TooLarge")),
-        GenesisFault::Memory => SetupFault::Memory,
-    }
 }

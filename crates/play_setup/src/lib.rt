@@ -10,10 +10,12 @@ mod fault;
 mod genesis;
 mod naming;
 mod publishing;
+mod refusals;
 mod stage;
 mod starts;
 
 pub use fault::SetupFault;
 pub use genesis::{first_chain, key_outputs};
 pub use naming::plan_on;
+pub use setup_refusals::{SetupRefusal, setup_line};
 pub use stage::{Stage, set_up};

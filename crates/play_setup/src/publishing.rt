@@ -5,12 +5,12 @@ ghost use Rattle.compiler.specs.Limits.{compile_fault};
 ghost use Rattle.play_setup.specs.SetUp.{object_of, publishes};
 ghost use Rattle.play_setup.specs.SetUpSupport.{WentOn};
 
-use crate::fault::{SetupFault, refused};
+use crate::fault::SetupFault;
+use crate::refusals::{contract_in_use, contract_refused};
 use collections::{Memory, TryClone};
-use marlowe_refusals::compile_fault_name;
 use parties::{Call, Hub, Reply, Seat, Session, Watch};
 use plans::NamedContract;
-use roles::{CompileFault, Published, publish};
+use roles::{Published, publish};
 use std::alloc::Global;
 use std::sync::Wait;
 
@@ -44,15 +44,14 @@ fn publish_one<R: Wait, J: Session, W: Watch>(
     ensures object { IfOk result (λ object. object ≡ object_of named.now) }
     ensures seat { OnOk result (WentOn seat.old seat.new (publishes named.now ∷ [])) }
 {
-    let name = named.name.as_str();
     let published = match publish(alloc, &named.contract, named.currency.try_clone()?) {
         Ok(published) => published,
-        Err(fault) => return Err(contract_refused(alloc, name, fault)),
+        Err(fault) => return Err(contract_refused(alloc, &named.name, fault)),
     };
     if is_published(rt, alloc, hub, seat, watch, named)? {
         Ok(published)
     } else {
-        Err(refused(format!(in alloc; "refused contract {name} IdInUse")))
+        Err(contract_in_use(alloc, &named.name))
     }
 }
 
@@ -78,15 +77,5 @@ fn is_published<R: Wait, J: Session, W: Watch>(
         Reply::Published(_) => Ok(true),
         Reply::IdInUse => Ok(false),
         _ => unreachable!(),
-    }
-}
-
-fn contract_refused(alloc: Global, name: &str, fault: CompileFault) -> SetupFault {
-    match fault {
-        CompileFault::Memory => SetupFault::Memory,
-        fault => {
-            let fault = compile_fault_name(fault);
-            refused(format!(in alloc; "refused contract {name} {fault}"))
-        }
     }
 }

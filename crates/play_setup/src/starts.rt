@@ -10,14 +10,14 @@ ghost use Rattle.plans.specs.declared.scenario.NamedThread.{NamedThread};
 ghost use Rattle.play_setup.specs.SetUp.{key_ask, start_made};
 ghost use Rattle.play_setup.specs.SetUpSupport.{WentOn, WasStarted, WereStarted};
 
-use crate::fault::{SetupFault, refused};
+use crate::fault::SetupFault;
+use crate::refusals::{rule_refused, start_refused};
 use builder::{Ask, BuildFault, Look, build_start};
 use collections::{Items, Memory, Text, TryClone};
 use contract::Interval;
 use eutxo_types::{OutputRef, Tx};
 use parties::{Call, Hub, Receipt, Reply, Seat, Session, Watch};
 use plans::NamedThread;
-use play_lines::{build_fault_text, tx_fault_text};
 use roles::Published;
 use std::alloc::Global;
 use std::sync::Wait;
@@ -58,8 +58,8 @@ fn start_one<R: Wait, J: Session, W: Watch>(
     let published = &contracts[thread.contract];
     let shown = look_at(rt, alloc, hub, seat, watch, &thread.by)?;
     match start_of(alloc, published, thread, look_of(&shown)) {
-        Ok(tx) => submitted(rt, alloc, hub, seat, watch, thread.name.as_str(), tx),
-        Err(fault) => Err(start_refused(alloc, thread.name.as_str(), &fault)),
+        Ok(tx) => submitted(rt, alloc, hub, seat, watch, &thread.name, tx),
+        Err(fault) => Err(start_refused(alloc, &thread.name, &fault)),
     }
 }
 
@@ -137,7 +137,7 @@ fn submitted<R: Wait, J: Session, W: Watch>(
     hub: &Hub<J>,
     seat: &mut Seat<J>,
     watch: &W,
-    name: &str,
+    name: &Text,
     tx: Tx,
 ) -> Result<OutputRef, SetupFault>
     ensures { IfOk result (λ start. (start ≡ Made (id_of tx) 0)
@@ -147,21 +147,7 @@ fn submitted<R: Wait, J: Session, W: Watch>(
     watch.answered();
     match told.reply() {
         Reply::Accepted(id) => Ok(OutputRef::Made { id: *id, index: 0 }),
-        Reply::Refused(fault) => Err(thread_refused(alloc, name, tx_fault_text(alloc, fault))),
+        Reply::Refused(fault) => Err(rule_refused(alloc, name, fault)),
         _ => unreachable!(),
-    }
-}
-
-fn start_refused(alloc: Global, name: &str, fault: &BuildFault) -> SetupFault {
-    match fault {
-        BuildFault::Memory => SetupFault::Memory,
-        fault => thread_refused(alloc, name, build_fault_text(alloc, fault)),
-    }
-}
-
-fn thread_refused(alloc: Global, name: &str, fault: Result<String, Memory>) -> SetupFault {
-    match fault {
-        Ok(fault) => refused(format!(in alloc; "refused thread {name} {fault}")),
-        Err(_) => SetupFault::Memory,
     }
 }

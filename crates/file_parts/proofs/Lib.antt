@@ -1,0 +1,4 @@
+pub mod PieceLemmas
+pub mod TextLemmas
+pub mod ViewLemmas
+pub mod Worked

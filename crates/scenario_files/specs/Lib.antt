@@ -1,0 +1,3 @@
+pub mod ScenarioFiles
+pub mod Paths
+pub mod Rows

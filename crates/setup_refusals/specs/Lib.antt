@@ -1,0 +1,2 @@
+pub mod SetupRefusals
+pub mod Rows
