@@ -1,8 +1,9 @@
 //! From the name and the text of a file to what is told of it.
-ghost use Rattle.std.specs.Prelude.{◌≡◌, ◌≢◌, IfOk, map};
+ghost use Rattle.std.specs.Prelude.{◌≡◌, ◌≢◌, Ok, Err, IfOk, map};
 ghost use Rattle.std.specs.Str.{IsUtf8};
 ghost use Rattle.json.specs.Reads.{token_of};
 ghost use Rattle.json_tree.specs.View.{view};
+ghost use Rattle.json_read_names.specs.ReadsText.{json_within};
 ghost use Rattle.json_read_scenarios.specs.ReadsScenario.{scenario};
 ghost use Rattle.json_stops.specs.Stops.{fault_as, fault_of};
 ghost use Rattle.explanations.specs.Explained.{Explains, ExplainsScenario, FaultIsTold, IsFirst, IsToldAt, IsToldBy, IsToldScenario, names_there, spelled};
@@ -45,6 +46,35 @@ pub fn explained(
         Ok(json) => told_json(alloc, file, text, sort, &json, how),
         Err(fault) => told_fault(alloc, file, text, fault, how),
     }
+}
+
+/// The same of a text that has been read as JSON, by its value: so it isn't read again.
+pub fn explained_value(
+    alloc: Global,
+    file: &str,
+    text: &[u8],
+    sort: Sort,
+    json: &Json<'_>,
+    how: How,
+) -> Result<Vec<u8>, Memory>
+    requires { json_within how.depth text.now ≡ Ok (view json.now) }
+    ensures { IfOk result (λ written. Explains how file.now text.now sort written.items) }
+{
+    told_json(alloc, file, text, sort, json, how)
+}
+
+/// The same of a text that has been refused as JSON, by its fault: it is told alike of each sort.
+pub fn explained_fault(
+    alloc: Global,
+    file: &str,
+    text: &[u8],
+    fault: JsonFault,
+    how: How,
+) -> Result<Vec<u8>, Memory>
+    requires { json_within how.depth text.now ≡ Err fault }
+    ensures { IfOk result (λ written. (sort : Sort) → Explains how file.now text.now sort written.items) }
+{
+    told_fault(alloc, file, text, fault, how)
 }
 
 // Of a text that isn't read as JSON.

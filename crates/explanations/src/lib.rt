@@ -11,7 +11,7 @@ mod standing;
 mod text_lines;
 
 pub use broken::{MAX_DEPTH, NoJson};
-pub use explain::{explained, explained_scenario};
+pub use explain::{explained, explained_fault, explained_scenario, explained_value};
 pub use how::How;
 pub use json_members::Spelling;
 pub use laws::worked_texts;

@@ -1,3 +1,4 @@
 mod PieceLemmas
 mod ReadingLemmas
 mod SequenceLemmas
+mod LookLemmas

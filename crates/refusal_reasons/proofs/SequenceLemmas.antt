@@ -14,7 +14,7 @@ use Rattle.json_members.specs.declared.spelling.Spelling.{Spelling}
 use Rattle.refusal_reasons.specs.declared.source.Over.{Over}
 use Rattle.json_read_transactions.specs.declared.fault.ReadFault.{ReadFault}
 use Rattle.refusal_reasons.specs.declared.source.Sources.{Sources}
-use Rattle.refusal_reasons.specs.Reasons.{LeadsWhere, TellsTransaction, TellsRefused, TellsOver, TellsRead, TellsThese, TellsUnread}
+use Rattle.refusal_reasons.specs.Reasons.{TellsTransaction, TellsRefused, TellsOver, TellsRead, TellsThese, TellsUnread}
 
 -- a transaction at an index, from where those before it lead
 pub refused_told : (w : Spelling) (a : Standing) (txs : List Transaction) (index : ℕ) (tx : Transaction) (there : Standing) (path : List PathStep) (written : List ℕ)

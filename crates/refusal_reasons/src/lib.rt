@@ -3,7 +3,9 @@
 //! stand behind the line of the refusal, each behind two blanks and ended by a line feed; or as members of a JSON object for tools.
 #![tactic(auto)]
 
+mod looks;
 mod pieces;
+mod readers;
 mod second_look;
 mod sequences;
 mod source;

@@ -1,19 +1,19 @@
 //! The first text that isn't read, or what is refused once all are read.
-ghost use Rattle.std.specs.Prelude.{◌≡◌, [], IfOk, MatchOption};
+ghost use Rattle.std.specs.Prelude.{◌≡◌, [], Some, IfOk, MatchOption};
 ghost use Rattle.contract.specs.Tree.{contract_tree};
 ghost use Rattle.semantics.specs.Walk.{standing};
-ghost use Rattle.refusal_reasons.specs.Reasons.{Tells, TellsFrom, TellsIfRefused, TellsNext, TellsOfTable, TellsOne, TellsState, TellsTable, numbers_of};
+ghost use Rattle.refusal_reasons.specs.Reasons.{Tells, TellsFrom, TellsIfRefused, TellsNext, TellsOfTable, TellsOne, TellsTable};
 
+use crate::looks::{Look, flat_look, look_at};
+use crate::readers::{Contracts, States, Transactions};
 use crate::sequences::sequence_told;
-use crate::source::{Behind, Source, text_if};
-use crate::texts::{contract_told, flat_told};
+use crate::source::{Behind, Source};
 use collections::Memory;
 use contract::{Contract, State, Transaction};
-use contract_json::{JsonFault, read_contract_within, read_transaction};
-use json_forms::{Numbers, Sort};
+use explanations::How;
 use json_members::Spelling;
-use marlowe_run::{Readable, beside_dropped, read_start};
-use std::alloc::{AllocError, Global};
+use marlowe_run::{Readable, beside_dropped};
+use std::alloc::Global;
 
 /// Why a command refuses that reads a contract and then a state, if one is given, and has this behind them; `readable` tells which texts
 /// are read. It is written in lines or members. `Memory` where memory was refused; there are no bytes only where nothing is refused, or of
@@ -29,14 +29,17 @@ pub fn reasons(
 ) -> Result<Vec<u8>, Memory>
     ensures { IfOk result (λ written. Tells contract.entry state.entry readable behind.entry spelling written.items) }
 {
-    match read_contract_within(alloc, contract.text, readable.depth) {
-        Ok(whole) => {
+    let how = How {
+        depth: readable.depth,
+        spelling,
+    };
+    match look_at(alloc, contract, &Contracts, how)? {
+        Look::Read(whole) => {
             let texts = readable.text_numbers;
             let written = from_state(alloc, &whole, state, texts, behind, spelling);
             beside_dropped(whole, written)
         }
-        Err(JsonFault::Memory) => Err(AllocError),
-        Err(_) => contract_told(alloc, contract, readable.depth, spelling),
+        Look::Told(written) => Ok(written),
     }
 }
 
@@ -53,38 +56,35 @@ fn from_state(
     ensures { IfOk result (λ written.
         TellsFrom spelling state.entry texts behind.entry (contract_tree whole.now) written.items) }
 {
-    match read_start(alloc, text_if(state), texts) {
-        Ok(start) => {
+    match state {
+        Some(source) => from_given(alloc, whole, source, texts, behind, spelling),
+        None => {
+            let start = State::new(alloc, 0);
             let written = from_behind(alloc, whole, &start, behind, spelling);
             beside_dropped(start, written)
         }
-        Err(JsonFault::Memory) => Err(AllocError),
-        Err(_) => state_told(alloc, state, texts, spelling),
     }
 }
 
-// Why a state isn't read.
-fn state_told(
+// .. one that is given.
+#[tactic(auto, using(crate::proofs::ReadingLemmas::behind_read, crate::proofs::ReadingLemmas::unread_here))]
+fn from_given(
     alloc: Global,
-    state: Option<Source<'_>>,
+    whole: &Contract,
+    state: Source<'_>,
     texts: bool,
+    behind: Behind<'_>,
     spelling: Spelling,
 ) -> Result<Vec<u8>, Memory>
-    ensures { IfOk result (λ written. TellsState spelling state.entry texts written.items) }
+    ensures { IfOk result (λ written.
+        TellsFrom spelling (Some state.entry) texts behind.entry (contract_tree whole.now) written.items) }
 {
-    match state {
-        Some(source) => flat_told(alloc, source, Sort::State(numbers_of(texts)), spelling),
-        None => Err(AllocError),
-    }
-}
-
-fn numbers_of(texts: bool) -> Numbers
-    ensures { result ≡ numbers_of texts }
-{
-    if texts {
-        Numbers::OrTexts
-    } else {
-        Numbers::Whole
+    match flat_look(alloc, state, &States { texts }, spelling)? {
+        Look::Read(start) => {
+            let written = from_behind(alloc, whole, &start, behind, spelling);
+            beside_dropped(start, written)
+        }
+        Look::Told(written) => Ok(written),
     }
 }
 
@@ -126,13 +126,12 @@ fn from_one(
     ensures { IfOk result (λ written.
         TellsOne spelling (standing start.now (contract_tree whole.now)) source.entry written.items) }
 {
-    match read_transaction(alloc, source.text) {
-        Ok(transaction) => {
+    match flat_look(alloc, source, &Transactions, spelling)? {
+        Look::Read(transaction) => {
             let written = transaction_told(alloc, whole, start, &transaction, spelling);
             beside_dropped(transaction, written)
         }
-        Err(JsonFault::Memory) => Err(AllocError),
-        Err(_) => flat_told(alloc, source, Sort::Transaction, spelling),
+        Look::Told(written) => Ok(written),
     }
 }
 
@@ -172,13 +171,13 @@ pub fn table_reasons(
 ) -> Result<Vec<u8>, Memory>
     ensures { IfOk result (λ written. TellsOfTable contract.entry depth spelling written.items) }
 {
-    match read_contract_within(alloc, contract.text, depth) {
-        Ok(whole) => {
+    let how = How { depth, spelling };
+    match look_at(alloc, contract, &Contracts, how)? {
+        Look::Read(whole) => {
             let written = table_told(alloc, &whole, spelling);
             beside_dropped(whole, written)
         }
-        Err(JsonFault::Memory) => Err(AllocError),
-        Err(_) => contract_told(alloc, contract, depth, spelling),
+        Look::Told(written) => Ok(written),
     }
 }
 

@@ -1,6 +1,6 @@
 //! One text that isn't read.
 ghost use Rattle.std.specs.Prelude.{IfOk};
-ghost use Rattle.refusal_reasons.specs.Reasons.{TellsContract, TellsFlat, TellsScenario};
+ghost use Rattle.refusal_reasons.specs.Reasons.{TellsFlat, TellsScenario};
 
 use crate::source::Source;
 use collections::Memory;
@@ -9,8 +9,8 @@ use json_forms::Sort;
 use json_members::Spelling;
 use std::alloc::Global;
 
-// How deep lists and objects may nest in a state or a transaction.
-const FLAT: usize = 127;
+/// How deep lists and objects may nest in a state or a transaction.
+pub(crate) const FLAT: usize = 127;
 
 /// Why a text isn't read as a state or a transaction.
 pub(crate) fn flat_told(
@@ -26,19 +26,6 @@ pub(crate) fn flat_told(
         spelling,
     };
     explained(alloc, source.path, source.text, sort, how)
-}
-
-/// Why a text isn't read as a contract, whose lists and objects may nest so deep.
-pub(crate) fn contract_told(
-    alloc: Global,
-    source: Source<'_>,
-    depth: usize,
-    spelling: Spelling,
-) -> Result<Vec<u8>, Memory>
-    ensures { IfOk result (λ written. TellsContract depth spelling source.entry written.items) }
-{
-    let how = How { depth, spelling };
-    explained(alloc, source.path, source.text, Sort::Contract, how)
 }
 
 /// Why `play` doesn't read a scenario, whose lists and objects may nest so deep; where it is read there are no bytes.
