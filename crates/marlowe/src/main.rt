@@ -1,5 +1,5 @@
 //! `marlowe`: what a Marlowe contract pays, and to whom, from JSON files, by one transaction or many; what it takes next; what it can
-//! warn of and pay in any run; and what becomes of contracts that many parties step on one ledger.
+//! warn of and pay in any run; what becomes of contracts that many parties step on one ledger; and a stream of such questions.
 //!
 //! What a command line prints, and its status, is told by `command` of `marlowe_commands`. Here are the words, the files and the
 //! streams. Refusals are explained where standard error is a terminal. Where standard output can't be written, `unwritable` is on
@@ -7,14 +7,19 @@
 //! room for one, that is told as want of memory.
 #![tactic(auto)]
 
+ghost use Rattle.std.specs.Prelude.{◌≤◌};
+
 mod files;
 mod progress;
 
 use crate::files::HostFiles;
 use crate::progress::Progress;
 use marlowe_cli::{WordsFault, words};
-use marlowe_commands::{Printed, STACK, command};
-use marlowe_io::emit_output;
+use marlowe_commands::{Command, Printed, STACK, command};
+use marlowe_io::{ReaderSource, emit_output, output};
+use marlowe_run::Readable;
+use request_plays::InTurn;
+use serve::{Ended, serve_with};
 use std::io::IsTerminal;
 use std::process::ExitCode;
 use std::rt::{Clock, Env, Files, Stderr};
@@ -48,7 +53,8 @@ fn status<R: AllocGlobal + Clock + Env + Eprint + Files + Input + Print + Sync +
             let told = command(rt, &files, &progress, words.as_slice(), for_people);
             progress.clear();
             match told {
-                Ok(printed) => tell(rt, errors, printed),
+                Ok(Command::Printed(printed)) => tell(rt, errors, printed),
+                Ok(Command::Serve(readable)) => answer(rt, errors, readable),
                 Err(_) => out_of_memory(errors),
             }
         }
@@ -68,6 +74,33 @@ fn tell(output: &impl Print, errors: &impl Print, printed: Printed) -> u8 {
             printed.status
         }
         Err(_) => unwritable(errors),
+    }
+}
+
+// Answers the requests that come on standard input, until they end, and gives the status.
+fn answer<R: AllocGlobal + Input + Print + Sync + Threads + Wait>(
+    rt: &R,
+    errors: &impl Print,
+    readable: Readable,
+) -> u8
+    requires { readable.depth ≤ 4000 }
+{
+    let player = InTurn { rt };
+    let mut requests = ReaderSource::new(rt.reader());
+    match serve_with(
+        rt.alloc(),
+        &player,
+        readable,
+        &mut requests,
+        &mut output(rt),
+    ) {
+        Ended::Answered => 0,
+        Ended::Unreadable => {
+            let _ = errors.write_all(b"unreadable -\n");
+            2
+        }
+        Ended::Unwritable => unwritable(errors),
+        Ended::Memory => out_of_memory(errors),
     }
 }
 

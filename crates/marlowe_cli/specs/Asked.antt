@@ -6,9 +6,10 @@ use Rattle.marlowe_cli.specs.declared.analyse.AnalyseTask.{AnalyseTask}
 use Rattle.marlowe_cli.specs.declared.next.NextTask.{NextTask}
 use Rattle.marlowe_cli.specs.declared.play.PlayTask.{PlayTask}
 use Rattle.marlowe_cli.specs.declared.run.RunTask.{RunTask}
+use Rattle.marlowe_cli.specs.declared.serve.ServeTask.{ServeTask}
 use Rattle.marlowe_cli.specs.declared.table.TableTask.{TableTask}
 use Rattle.marlowe_cli.specs.declared.task.Task.{Task}
-use Rattle.marlowe_cli.specs.declared.task.Task.TheVariants.{Run, Trace, Next, Table, Analyse, Play}
+use Rattle.marlowe_cli.specs.declared.task.Task.TheVariants.{Run, Trace, Next, Table, Analyse, Play, Serve}
 use Rattle.marlowe_cli.specs.declared.trace.TraceTask.{TraceTask}
 
 -- a flag is set where its text is `true`, and not where that is `false` or there is none
@@ -104,6 +105,8 @@ AsksAnalysis words task = (first_of (codes "CONTRACT") words ≡ Some task.contr
     × (first_of (codes "STATE") words ≡ option_map (λ path. path.now) task.state)
     × IsFlag (one_of (codes "json") words) task.json
     × IsFlag (one_of (codes "no-runs") words) task.no_runs
+    × IsFlag (one_of (codes "all") words) task.all
+    × IsFlag (one_of (codes "notes") words) task.notes
     × IsFlag (one_of (codes "strict") words) task.strict
     × IsDepth (one_of (codes "depth") words) task.depth
     × IsFlag (one_of (codes "text-numbers") words) task.text_numbers
@@ -114,12 +117,18 @@ AsksAnalysis words task = (first_of (codes "CONTRACT") words ≡ Some task.contr
 abbrev pub AsksPlay : List Row → PlayTask → Type 0
 AsksPlay words task = (first_of (codes "SCENARIO") words ≡ Some task.scenario.now)
     × IsFlag (one_of (codes "one") words) task.one
+    × IsFlag (one_of (codes "files") words) task.files
     × IsFlag (one_of (codes "strict") words) task.strict
     × (given_for (codes "expect-open") words ≡ map (λ name. name.now) task.kept_open.items)
     × IsFlag (one_of (codes "json") words) task.json
     × IsDepth (one_of (codes "depth") words) task.depth
+    × IsFlag (one_of (codes "big-as-text") words) task.big_as_text
     × IsFlag (one_of (codes "explain") words) task.explain
     × AreApart task.json task.explain
+
+abbrev pub AsksStream : List Row → ServeTask → Type 0
+AsksStream words task = IsDepth (one_of (codes "depth") words) task.depth
+    × IsFlag (one_of (codes "text-numbers") words) task.text_numbers
 
 -- a task is what is asked, by the command's name and its words
 abbrev pub IsAsked : Option (Text × List Row) → Task → Type 0
@@ -130,3 +139,4 @@ IsAsked (Some (name, words)) (Next task) = (name ≡ codes "next") × AsksNext w
 IsAsked (Some (name, words)) (Table task) = (name ≡ codes "table") × AsksTable words task
 IsAsked (Some (name, words)) (Analyse task) = (name ≡ codes "analyse") × AsksAnalysis words task
 IsAsked (Some (name, words)) (Play task) = (name ≡ codes "play") × AsksPlay words task
+IsAsked (Some (name, words)) (Serve task) = (name ≡ codes "serve") × AsksStream words task

@@ -15,8 +15,12 @@ pub struct AnalyseTask<'a> {
     pub state: Option<&'a str>,
     /// As JSON, a refusal too, and not as lines for people.
     pub json: bool,
-    /// No run is looked for, and else one for each alarm.
+    /// No run is looked for, and else those that end in alarms, and those that reach bounds.
     pub no_runs: bool,
+    /// Each alarm is told in full, and else of alarms of one kind at equal parts the first that has a run.
+    pub all: bool,
+    /// Notes on the contract are told too.
+    pub notes: bool,
     /// Status 3 also where a part is told that no run reaches.
     pub strict: bool,
     /// How deep lists and objects of a contract may nest: from 127 to 4,000 levels.
@@ -42,6 +46,8 @@ pub(crate) fn analyse_task<'a>(analyse: &ArgMatches<'a>) -> Result<Task<'a>, NoT
         state,
         json,
         no_runs: is_given(analyse, "no-runs"),
+        all: is_given(analyse, "all"),
+        notes: is_given(analyse, "notes"),
         strict: is_given(analyse, "strict"),
         depth: depth(analyse)?,
         text_numbers: is_given(analyse, "text-numbers"),

@@ -14,6 +14,8 @@ pub struct PlayTask<'a> {
     pub scenario: &'a str,
     /// The plans are played one after another, and else all at once.
     pub one: bool,
+    /// A contract of the scenario may be a file of its own, whose path is from the scenario's folder.
+    pub files: bool,
     /// Status 3 where an intent isn't done, or a thread isn't closed at the end.
     pub strict: bool,
     /// The names of threads that may stay open all the same.
@@ -22,6 +24,8 @@ pub struct PlayTask<'a> {
     pub json: bool,
     /// How deep lists and objects of the scenario may nest: from 127 to 4,000 levels.
     pub depth: usize,
+    /// Numbers outside -2^53 to 2^53 are texts in JSON.
+    pub big_as_text: bool,
     /// Lines say what each step did, what was refused or not built, how each intent ended, and who holds what at the end.
     pub explain: bool,
 }
@@ -36,10 +40,12 @@ pub(crate) fn play_task<'a>(alloc: Global, play: &ArgMatches<'a>) -> Result<Task
     Ok(Task::Play(PlayTask {
         scenario: word(play, "SCENARIO")?,
         one: is_given(play, "one"),
+        files: is_given(play, "files"),
         strict: is_given(play, "strict"),
         kept_open: words_for(alloc, play, "expect-open")?,
         json,
         depth: depth(play)?,
+        big_as_text: is_given(play, "big-as-text"),
         explain,
     }))
 }

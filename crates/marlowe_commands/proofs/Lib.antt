@@ -1,3 +1,4 @@
 mod NoteLemmas
 mod TaskLemmas
 mod ShownLemmas
+mod FileLemmas

@@ -19,7 +19,7 @@ use Rattle.marlowe_run.specs.declared.readable.Readable.{Readable}
 use Rattle.marlowe_trace.specs.Traced.{Told}
 use Rattle.marlowe_next.specs.declared.asked.Asked.{Asked}
 use Rattle.marlowe_next.specs.Question.{Reached}
-use Rattle.marlowe_analyse.specs.declared.analysed.Reader.{Reader}
+use Rattle.marlowe_analyse.specs.declared.analysed.Telling.{Telling}
 use Rattle.json_read_names.specs.Parts.{Reading}
 use Rattle.plans.specs.declared.scenario.Scenario.{Scenario}
 use Rattle.marlowe_play.specs.Played.{Wanted}
@@ -31,9 +31,9 @@ use Rattle.marlowe_commands.specs.declared.face.Face.{Face}
 use Rattle.marlowe_commands.specs.declared.face.Face.TheVariants.{Plain, Explained, Json}
 use Rattle.marlowe_commands.specs.declared.printed.Printed.{Printed}
 use Rattle.marlowe_commands.specs.Streams.{Streams, streams_of, Saying, Refusal, says, refuses, for_people, for_tools, shown, spelling_of, IsShown, IsStatus, IsWell, Shows, IsForPeople, IsForTools, IsExplained, IsFor, IsHelp, AreNotes, unreadable, with_notes}
-use Rattle.marlowe_commands.specs.Tasks.{AsksFor, AsksForAlarms, IsOfLine, IsTrace, MayAlarm, SaysAnalysis, SaysNext, SaysPlay, analysis_status, face_by, face_of, refusal_by, run_said, table_said, trace_said, play_status, play_refusal, well_status}
+use Rattle.marlowe_commands.specs.Tasks.{AsksFor, AsksForAlarms, IsOfLine, IsTrace, MayAlarm, SaysAnalysis, SaysNext, SaysPlay, analysis_status, face_by, face_of, stream_of, refusal_by, run_said, table_said, trace_said, play_status, play_refusal, well_status}
 use Rattle.marlowe_commands.proofs.NoteLemmas.{both}
-use Rattle.marlowe_commands.proofs.TaskLemmas.{asks_alarms, asks_trace, wants_face}
+use Rattle.marlowe_commands.proofs.TaskLemmas.{asks_alarms, asks_no_stream, asks_trace, wants_face}
 
 -- nothing behind a text changes nothing
 pub with_none : (text other : List ℕ) → text ≡ other → text ≡ other ++ []
@@ -110,24 +110,24 @@ alarm_status false true unreached = inl refl
 alarm_status true true false = inl refl
 alarm_status true true true = inr (tt {0}, refl)
 
-analysis_well : (reader : Reader) (strict : Bool) (readable : Readable) (contract : List ℕ) (state : Option (List ℕ)) (said : Saying)
-    → SaysAnalysis reader strict readable contract state said → IsWell (Unit {0}) ⊥ said
-analysis_well reader strict readable contract state said (inl (clear, unreached, text, is, told)) =
+analysis_well : (telling : Telling) (strict : Bool) (readable : Readable) (contract : List ℕ) (state : Option (List ℕ)) (said : Saying)
+    → SaysAnalysis telling strict readable contract state said → IsWell (Unit {0}) ⊥ said
+analysis_well telling strict readable contract state said (inl (clear, unreached, text, is, told)) =
     subst (IsWell (Unit {0}) ⊥) (sym is) (alarm_status strict clear unreached)
-analysis_well reader strict readable contract state said (inr (f, unread, is)) = subst (IsWell (Unit {0}) ⊥) (sym is) (inl refl, refusal_is (fault.Run f))
+analysis_well telling strict readable contract state said (inr (f, unread, is)) = subst (IsWell (Unit {0}) ⊥) (sym is) (inl refl, refusal_is (fault.Run f))
 
 play_status_is : (f : PlayFault) → (play_status f ≡ 1) ⊎ (play_status f ≡ 4)
 play_status_is (playing.Scenario f) = inr refl
-play_status_is (playing.Setup line) = inl refl
+play_status_is (playing.Setup refusal) = inl refl
 play_status_is playing.Memory = inl refl
 
 well_status_is : (well : Bool) → (well_status well ≡ 0) ⊎ Unit {0} × (well_status well ≡ 3)
 well_status_is true = inl refl
 well_status_is false = inr (tt {0}, refl)
 
-play_well : (reading : Reading Scenario) (wanted : Wanted) (said : Saying) → SaysPlay reading wanted said → IsWell (Unit {0}) ⊥ said
-play_well reading wanted said (inl (well, text, is, answer)) = subst (IsWell (Unit {0}) ⊥) (sym is) (well_status_is well)
-play_well reading wanted said (inr (f, is)) = subst (IsWell (Unit {0}) ⊥) (sym is) (inl refl, inl (refl, play_status_is f))
+play_well : (big : Bool) (reading : Reading Scenario) (wanted : Wanted) (said : Saying) → SaysPlay big reading wanted said → IsWell (Unit {0}) ⊥ said
+play_well big reading wanted said (inl (well, text, is, answer)) = subst (IsWell (Unit {0}) ⊥) (sym is) (well_status_is well)
+play_well big reading wanted said (inr (f, is)) = subst (IsWell (Unit {0}) ⊥) (sym is) (inl refl, inl (refl, play_status_is f))
 
 -- ---- what is shown shows a saying that is well formed
 
@@ -137,7 +137,7 @@ no_notes (output, errors, status) = ap (λ text. (output, text, status)) (sym (a
 two_notes : (first second : List ℕ) (streams : Streams) → with_notes second (with_notes first streams) ≡ with_notes (first ++ second) streams
 two_notes first second (output, errors, status) = ap (λ text. (output, text, status)) (append_assoc errors first second)
 
-shows : (face : Face) (alarms outcomes : Type 0) (Says : Saying → Type 0) (Tells : Spelling → List ℕ → Type 0) (streams : Streams)
+pub shows : (face : Face) (alarms outcomes : Type 0) (Says : Saying → Type 0) (Tells : Spelling → List ℕ → Type 0) (streams : Streams)
     → ((said : Saying) → Says said → IsWell alarms outcomes said) → IsShown face Says Tells streams → Shows face alarms outcomes streams
 shows face alarms outcomes Says Tells streams well it =
     record { said = it.said; is_well = well it.said it.is_said; told = it.told; notes = []; are_notes = ([], refl); are_explained = inl refl; is = it.is ∙ no_notes (shown face it.said it.told) }
@@ -180,15 +180,16 @@ pub next_shows : (face : Face) (asked : Asked) (reached : Result Reached TraceFa
     → IsShown face (SaysNext asked reached) Tells streams → Shows face ⊥ ⊥ streams
 next_shows face asked reached Tells streams it = shows face ⊥ ⊥ (SaysNext asked reached) Tells streams (next_well asked reached) it
 
-pub analysis_shows : (face : Face) (reader : Reader) (strict : Bool) (readable : Readable) (contract : List ℕ) (state : Option (List ℕ))
-    (Tells : Spelling → List ℕ → Type 0) (streams : Streams) → IsShown face (SaysAnalysis reader strict readable contract state) Tells streams
+pub analysis_shows : (face : Face) (telling : Telling) (strict : Bool) (readable : Readable) (contract : List ℕ) (state : Option (List ℕ))
+    (Tells : Spelling → List ℕ → Type 0) (streams : Streams) → IsShown face (SaysAnalysis telling strict readable contract state) Tells streams
     → Shows face (Unit {0}) ⊥ streams
-analysis_shows face reader strict readable contract state Tells streams it =
-    shows face (Unit {0}) ⊥ (SaysAnalysis reader strict readable contract state) Tells streams (analysis_well reader strict readable contract state) it
+analysis_shows face telling strict readable contract state Tells streams it =
+    shows face (Unit {0}) ⊥ (SaysAnalysis telling strict readable contract state) Tells streams (analysis_well telling strict readable contract state) it
 
-pub play_shows : (face : Face) (reading : Reading Scenario) (wanted : Wanted) (Tells : Spelling → List ℕ → Type 0) (streams : Streams)
-    → IsShown face (SaysPlay reading wanted) Tells streams → Shows face (Unit {0}) ⊥ streams
-play_shows face reading wanted Tells streams it = shows face (Unit {0}) ⊥ (SaysPlay reading wanted) Tells streams (play_well reading wanted) it
+pub play_shows : (face : Face) (big : Bool) (reading : Reading Scenario) (wanted : Wanted) (Tells : Spelling → List ℕ → Type 0) (streams : Streams)
+    → IsShown face (SaysPlay big reading wanted) Tells streams → Shows face (Unit {0}) ⊥ streams
+play_shows face big reading wanted Tells streams it =
+    shows face (Unit {0}) ⊥ (SaysPlay big reading wanted) Tells streams (play_well big reading wanted) it
 
 -- ---- where more is allowed
 
@@ -215,6 +216,20 @@ unreadable_shows face path said told streams is (inl same) =
     record { said = said; is_well = subst (IsWell ⊥ ⊥) (sym is) (inl refl, inr (refl, refl)); told = told; notes = []; are_notes = ([], refl); are_explained = inl refl; is = same ∙ no_notes (shown face said told) }
 unreadable_shows face path said told streams is (inr same) =
     record { said = said; is_well = subst (IsWell ⊥ ⊥) (sym is) (inl refl, inr (refl, refl)); told = []; notes = []; are_notes = ([], refl); are_explained = inl refl; is = same ∙ no_notes (shown face said []) }
+
+-- a text with status 0 is well formed
+text_shows : (face : Face) (text : List ℕ) (told : List ℕ) (streams : Streams)
+    → (streams ≡ shown face (says text 0) told) ⊎ (streams ≡ shown face (says text 0) []) → Shows face ⊥ ⊥ streams
+text_shows face text told streams (inl same) =
+    record { said = says text 0; is_well = inl refl; told = told; notes = []; are_notes = ([], refl); are_explained = inl refl; is = same ∙ no_notes (shown face (says text 0) told) }
+text_shows face text told streams (inr same) =
+    record { said = says text 0; is_well = inl refl; told = []; notes = []; are_notes = ([], refl); are_explained = inl refl; is = same ∙ no_notes (shown face (says text 0) []) }
+
+pub text_shown : {E : Type 0} (face : Face) (text told : List ℕ) (r : Result Printed E)
+    → IfOk r (λ p. (streams_of p ≡ shown face (says text 0) told) ⊎ (streams_of p ≡ shown face (says text 0) []))
+    → IfOk r (λ p. Shows face ⊥ ⊥ (streams_of p))
+text_shown face text told (Ok printed) is = text_shows face text told (streams_of printed) is
+text_shown face text told (Err e) is = tt {0}
 
 -- ---- on which streams it is
 
@@ -309,11 +324,12 @@ three_alarms face alarms outcomes streams it three =
 -- ---- what the words of a command line print
 
 pub line_shows : (explain : Bool) (words : Option (Text × List Row)) (task : Task) (streams : Streams) → IsAsked words task
-    → Shows (face_of explain task) (MayAlarm task) (IsTrace task) streams → IsOfLine explain words streams
-line_shows explain words task streams asked it =
+    → None ≡ stream_of task → Shows (face_of explain task) (MayAlarm task) (IsTrace task) streams → IsOfLine explain words streams
+line_shows explain words task streams asked none it =
     inl (
       face_of explain task,
-      wants_face explain words task asked,
+      asks_no_stream words task asked (sym none),
+      wants_face explain words task asked (sym none),
       widened (face_of explain task) (MayAlarm task) (IsTrace task) (AsksForAlarms words) (AsksFor (codes "trace") words) streams
           (asks_alarms words task asked) (asks_trace words task asked) it,
     )

@@ -1,5 +1,5 @@
 -- What each command says.
-use Rattle.std.specs.Prelude.{◌≡◌, ◌⊎◌, ◌&&◌, ◌||◌, ℕ, Bool, true, false, not, if◌then◌else◌, List, [], Option, Some, None, Result, Ok, Err, codes}
+use Rattle.std.specs.Prelude.{◌≡◌, ◌⊎◌, ◌≤◌, ◌&&◌, ◌||◌, ℕ, Bool, true, false, not, if◌then◌else◌, List, [], Option, Some, None, Result, Ok, Err, codes}
 use Rattle.clap.specs.Words.{Row, Text, one_of}
 use Rattle.json_read_names.specs.declared.fault.JsonFault.{JsonFault}
 use Rattle.marlowe_refusals.specs.declared.fault.Fault.{Fault}
@@ -9,6 +9,7 @@ use Rattle.marlowe_refusals.specs.declared.table_fault.TableFault.{TableFault}
 use Rattle.marlowe_refusals.specs.declared.trace_fault.TraceFault.{TraceFault}
 use Rattle.marlowe_refusals.specs.Refusals.{json_fault_name, refusal_text}
 use Rattle.refusal_objects.specs.Objects.{fault_members, fault_status, named}
+use Rattle.setup_refusals.specs.SetupRefusals.{setup_members}
 use Rattle.line_objects.specs.Objects.{lines_object}
 use Rattle.big_texts.specs.Lines.{big_as_text}
 use Rattle.marlowe_run.specs.declared.readable.Readable.{Readable}
@@ -16,7 +17,7 @@ use Rattle.marlowe_trace.specs.Traced.{Told}
 use Rattle.marlowe_next.specs.declared.asked.Asked.{Asked}
 use Rattle.marlowe_next.specs.Answer.{IsAnswer}
 use Rattle.marlowe_next.specs.Question.{Reached, answered}
-use Rattle.marlowe_analyse.specs.declared.analysed.Reader.{Reader}
+use Rattle.marlowe_analyse.specs.declared.analysed.Telling.{Telling}
 use Rattle.marlowe_analyse.specs.Printed.{TellsSo, is_read}
 use Rattle.json_read_names.specs.Parts.{Reading}
 use Rattle.plans.specs.declared.scenario.Scenario.{Scenario}
@@ -26,17 +27,19 @@ use Rattle.marlowe_play.specs.declared.fault.PlayFault.{PlayFault}
 use Rattle.marlowe_play.specs.declared.fault.PlayFault.TheVariants as playing
 use Rattle.refusal_reasons.specs.declared.source.Over.{Over}
 use Rattle.marlowe_cli.specs.declared.task.Task.{Task}
-use Rattle.marlowe_cli.specs.declared.task.Task.TheVariants.{Run, Trace, Next, Table, Analyse, Play}
-use Rattle.marlowe_cli.specs.Asked.{IsFlag}
+use Rattle.marlowe_cli.specs.declared.task.Task.TheVariants.{Run, Trace, Next, Table, Analyse, Play, Serve}
+use Rattle.marlowe_cli.specs.Asked.{IsDepth, IsFlag}
+use Rattle.marlowe_commands.specs.declared.answer.Command.{Command}
+use Rattle.marlowe_commands.specs.declared.answer.Command.TheVariants as command
 use Rattle.marlowe_commands.specs.declared.face.Face.{Face}
 use Rattle.marlowe_commands.specs.declared.face.Face.TheVariants.{Plain, Explained, Json}
-use Rattle.marlowe_commands.specs.Streams.{Saying, Refusal, Streams, says, refuses, IsFor, Shows, IsHelp}
+use Rattle.marlowe_commands.specs.Streams.{Saying, Refusal, Streams, says, refuses, streams_of, IsFor, Shows, IsHelp}
 
 -- a fault: for people its line, with status 1
 abbrev pub refusal_by : Fault → Refusal
 refusal_by f = ((refusal_text f, 1), (fault_members f, fault_status f))
 
--- the lines of outcomes, with their big numbers as texts where they are wanted so
+-- the lines of outcomes, or of a play for tools, with their big numbers as texts where they are wanted so
 abbrev pub outcomes : Bool → List ℕ → List ℕ
 outcomes big text = if big then big_as_text text else text
 
@@ -72,20 +75,20 @@ abbrev pub analysis_status : Bool → Bool → Bool → ℕ
 analysis_status strict clear unreached = if clear && not (strict && unreached) then 0 else 3
 
 -- the analysis, with this status; or the refusal of the first text that isn't read
-abbrev pub SaysAnalysis : Reader → Bool → Readable → List ℕ → Option (List ℕ) → Saying → Type 0
-SaysAnalysis reader strict readable contract state said =
-    ((clear unreached : Bool) × (text : List ℕ) × (said ≡ says text (analysis_status strict clear unreached)) × TellsSo reader readable contract state clear unreached text)
+abbrev pub SaysAnalysis : Telling → Bool → Readable → List ℕ → Option (List ℕ) → Saying → Type 0
+SaysAnalysis telling strict readable contract state said =
+    ((clear unreached : Bool) × (text : List ℕ) × (said ≡ says text (analysis_status strict clear unreached)) × TellsSo telling readable contract state clear unreached text)
     ⊎ ((f : RunFault) × (is_read readable contract state ≡ Err f) × (said ≡ refuses [] (refusal_by (fault.Run f))))
 
 -- why a scenario isn't played: its text isn't read, or its setup has a fault
 abbrev pub play_members : PlayFault → List ℕ
 play_members (playing.Scenario f) = named (codes "scenario") (json_fault_name f)
-play_members (playing.Setup line) = named (codes "setup") (codes "Refused")
+play_members (playing.Setup refusal) = setup_members refusal
 play_members playing.Memory = named (codes "memory") (codes "Memory")
 
 abbrev pub play_status : PlayFault → ℕ
 play_status (playing.Scenario f) = 4
-play_status (playing.Setup line) = 1
+play_status (playing.Setup refusal) = 1
 play_status playing.Memory = 1
 
 abbrev pub play_refusal : PlayFault → Refusal
@@ -96,9 +99,9 @@ abbrev pub well_status : Bool → ℕ
 well_status well = if well then 0 else 3
 
 -- a play of the scenario, with this status, or why it isn't played
-abbrev pub SaysPlay : Reading Scenario → Wanted → Saying → Type 0
-SaysPlay reading wanted said =
-    ((well : Bool) × (text : List ℕ) × (said ≡ says text (well_status well)) × IsAnswered reading wanted text well)
+abbrev pub SaysPlay : Bool → Reading Scenario → Wanted → Saying → Type 0
+SaysPlay big reading wanted said =
+    ((well : Bool) × (text : List ℕ) × (said ≡ says (outcomes big text) (well_status well)) × IsAnswered reading wanted text well)
     ⊎ ((f : PlayFault) × (said ≡ refuses [] (play_refusal f)))
 
 -- the interval that is asked about
@@ -144,6 +147,7 @@ face_of explain (Next task) = face_by task.json (explain || task.explain)
 face_of explain (Table task) = face_by task.json (explain || task.explain)
 face_of explain (Analyse task) = face_by task.json (explain || task.explain)
 face_of explain (Play task) = face_by task.json (explain || task.explain)
+face_of explain (Serve task) = Plain
 
 -- how the words of a command line want it, by their flags
 pub record WantsFace (explain : Bool) (words : List Row) (face : Face) : Type 0 where
@@ -157,8 +161,40 @@ abbrev pub WantsFaceIn : Bool → Option (Text × List Row) → Face → Type 0
 WantsFaceIn explain None face = ⊥
 WantsFaceIn explain (Some (name, words)) face = WantsFace explain words face
 
--- what the words of a command line print: what their command says, shown as they want it; or, where they ask for none, help or what is wrong
+-- what the words of a command line print: what their command says, which is no stream, shown as they want it; or, where they ask for none, help or
+-- what is wrong
 abbrev pub IsOfLine : Bool → Option (Text × List Row) → Streams → Type 0
 IsOfLine explain words streams =
-    ((face : Face) × WantsFaceIn explain words face × Shows face (AsksForAlarms words) (AsksFor (codes "trace") words) streams)
+    ((face : Face) × (AsksFor (codes "serve") words → ⊥) × WantsFaceIn explain words face
+    × Shows face (AsksForAlarms words) (AsksFor (codes "trace") words) streams)
     ⊎ IsHelp streams
+
+-- ---- streams of requests
+
+-- what is readable in a stream, for a task that is one
+abbrev pub stream_of : Task → Option Readable
+stream_of (Serve task) = Some (record { depth = task.depth; text_numbers = task.text_numbers })
+stream_of other = None
+
+-- the words of a command line ask for a stream of requests in which this is readable
+abbrev pub AsksForStream : Option (Text × List Row) → Readable → Type 0
+AsksForStream None readable = ⊥
+AsksForStream (Some (name, words)) readable = (name ≡ codes "serve") × IsDepth (one_of (codes "depth") words) readable.depth
+    × IsFlag (one_of (codes "text-numbers") words) readable.text_numbers
+
+-- ---- what becomes of a command line
+
+-- it is printed, or a stream is served
+abbrev pub IsAnswerTo : Bool → Option (Text × List Row) → Command → Type 0
+IsAnswerTo explain words (command.Printed printed) = IsOfLine explain words (streams_of printed)
+IsAnswerTo explain words (command.Serve readable) = AsksForStream words readable
+
+-- what is printed has the status of alarms
+abbrev pub HasAlarms : Command → Type 0
+HasAlarms (command.Printed printed) = printed.status ≡ 3
+HasAlarms (command.Serve readable) = ⊥
+
+-- a stream's texts nest at most so deep
+abbrev pub NestsAtMost : ℕ → Command → Type 0
+NestsAtMost most (command.Printed printed) = Unit {0}
+NestsAtMost most (command.Serve readable) = readable.depth ≤ most

@@ -1,14 +1,15 @@
-//! What a command line prints.
+//! What becomes of a command line.
 ghost use Rattle.std.specs.Prelude.{◌≡◌, [], IfOk, map, string_bytes};
 ghost use Rattle.clap.specs.Words.{subcommand_of};
 ghost use Rattle.marlowe_usage.specs.Lines.{command_line};
 ghost use Rattle.marlowe_commands.specs.Streams.{IsHelp, Shows, streams_of};
-ghost use Rattle.marlowe_commands.specs.Tasks.{AsksForAlarms, IsOfLine, IsTrace, MayAlarm, ShowsOnStreams, face_of};
+ghost use Rattle.marlowe_commands.specs.Tasks.{AsksForAlarms, HasAlarms, IsAnswerTo, IsTrace, MayAlarm, NestsAtMost, ShowsOnStreams, face_of, stream_of};
 
+use crate::answer::Command;
 use crate::face::Face;
 use crate::printed::Printed;
 use crate::said::Said;
-use crate::stops::Stop;
+use crate::stops::{Stop, unreadable};
 use crate::texts::Texts;
 use crate::told::{analysis_told, next_told, play_told, run_told, table_told, trace_told};
 use clap::Error;
@@ -16,29 +17,51 @@ use clap::error::ErrorKind;
 use collections::Memory;
 use marlowe_cli::{Task, line};
 use marlowe_play::Watch;
+use marlowe_run::Readable;
 use std::alloc::{AllocError, Global};
 use std::sync::Wait;
 use std::thread::Threads;
 
-/// What the words of a command line print, the first word being the program's own name, where its paths lead to these texts. Who watches is
-/// told how far a play is. Behind a refusal stand lines that explain it where the words ask for them, or where this call does, with `explain`.
-/// With `--json` all is on standard output, and a refusal is an object.
-#[tactic(auto, using(crate::proofs::ShownLemmas::line_shows, crate::proofs::ShownLemmas::line_alarms, crate::proofs::ShownLemmas::help_alarms))]
+/// What becomes of the words of a command line, the first word being the program's own name, where its paths lead to these texts. Who watches
+/// is told how far a play is. Behind a refusal stand lines that explain it where the words ask for them, or where this call does, with `explain`.
+/// With `--json` all is on standard output, and a refusal is an object. Words that ask for a stream of requests print nothing here.
+#[tactic(auto, using(crate::proofs::ShownLemmas::line_shows, crate::proofs::ShownLemmas::line_alarms, crate::proofs::ShownLemmas::help_alarms, crate::proofs::TaskLemmas::asks_stream, crate::proofs::TaskLemmas::nests))]
 pub fn command<T: Texts, R: AllocGlobal + Threads + Wait + Sync, W: Watch + Sync>(
     rt: &R,
     texts: &T,
     watch: &W,
     words: &[String],
     explain: bool,
-) -> Result<Printed, Memory>
-    ensures stream { IfOk result (λ printed.
-        IsOfLine explain (subcommand_of command_line (map (λ w. string_bytes w) words.now)) (streams_of printed)) }
-    ensures alarms { IfOk result (λ printed. printed.status ≡ 3
+) -> Result<Command, Memory>
+    ensures told { IfOk result (IsAnswerTo explain (subcommand_of command_line (map (λ w. string_bytes w) words.now))) }
+    ensures alarms { IfOk result (λ command. HasAlarms command
         → AsksForAlarms (subcommand_of command_line (map (λ w. string_bytes w) words.now))) }
+    ensures depth { IfOk result (NestsAtMost 4000) }
 {
     match line(rt.alloc(), words) {
-        Ok(task) => task_shown(rt, texts, watch, task, explain),
-        Err(error) => clap_told(rt.alloc(), &error),
+        Ok(task) => match stream_of(&task) {
+            Some(readable) => Ok(Command::Serve(readable)),
+            None => Ok(Command::Printed(task_shown(rt, texts, watch, task, explain)?)),
+        },
+        Err(error) => Ok(Command::Printed(clap_told(rt.alloc(), &error)?)),
+    }
+}
+
+// What is readable in the stream that a task asks for, if it asks for one.
+fn stream_of(task: &Task<'_>) -> Option<Readable>
+    ensures { result ≡ stream_of task.now }
+{
+    match task {
+        Task::Serve(task) => Some(Readable {
+            depth: task.depth,
+            text_numbers: task.text_numbers,
+        }),
+        Task::Run(_)
+        | Task::Trace(_)
+        | Task::Next(_)
+        | Task::Table(_)
+        | Task::Analyse(_)
+        | Task::Play(_) => None,
     }
 }
 
@@ -77,6 +100,7 @@ fn face_of(task: &Task<'_>, explain: bool) -> Face
         Task::Table(task) => Face::of(task.json, explain || task.explain),
         Task::Analyse(task) => Face::of(task.json, explain || task.explain),
         Task::Play(task) => Face::of(task.json, explain || task.explain),
+        Task::Serve(_) => Face::Plain,
     }
 }
 
@@ -99,15 +123,15 @@ fn task_told<'a, T: Texts, R: AllocGlobal + Threads + Wait + Sync, W: Watch + Sy
         Task::Table(task) => table_told(alloc, texts, task, face),
         Task::Analyse(task) => analysis_told(alloc, texts, task, face),
         Task::Play(task) => play_told(rt, texts, watch, task, face),
+        Task::Serve(_) => Ok(nothing(alloc, face)?),
     }
 }
 
-// A file that can't be read.
-#[tactic(auto, using(crate::proofs::ShownLemmas::unreadable_shows))]
-fn unreadable(alloc: Global, path: &str, face: Face) -> Result<Printed, Memory>
+// What is printed here for a stream of requests.
+fn nothing(alloc: Global, face: Face) -> Result<Printed, Memory>
     ensures { IfOk result (λ printed. Shows face ⊥ ⊥ (streams_of printed)) }
 {
-    let said = Said::unreadable(alloc, path)?;
+    let said = Said::Text(Vec::new(alloc), 0);
     said.shown(alloc, face, &Vec::new(alloc))
 }
 

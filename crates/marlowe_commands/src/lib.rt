@@ -5,8 +5,10 @@
 //! they are shown to people, with explanations behind a refusal or without, or to tools, as JSON. docs/formats.md has what is printed.
 #![tactic(auto)]
 
+mod answer;
 mod command_line;
 mod face;
+mod files;
 mod noted;
 mod printed;
 mod said;
@@ -17,10 +19,13 @@ mod tasks;
 mod texts;
 mod told;
 
+pub use answer::Command;
 pub use command_line::{command, shown_on_streams};
 pub use face::Face;
+pub use files::{Joined, scenario_joined};
 pub use marlowe_play::{NoWatch, PlayFault, Watch};
 pub use printed::Printed;
+pub use setup_refusals::{Cause, SetupRefusal};
 pub use shown::{analysis_shown, next_shown, play_shown, run_shown, table_shown, trace_shown};
 pub use stack::STACK;
 pub use texts::Texts;

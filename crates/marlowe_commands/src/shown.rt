@@ -17,7 +17,7 @@ use crate::face::Face;
 use crate::printed::Printed;
 use crate::tasks::{analysis_said, next_said, play_said, run_said, table_said, trace_said};
 use collections::Memory;
-use marlowe_analyse::Reader;
+use marlowe_analyse::Telling;
 use marlowe_play::Watch;
 use marlowe_run::Readable;
 use refusal_reasons::{
@@ -169,12 +169,12 @@ pub fn analysis_shown(
     contract: Source<'_>,
     state: Option<Source<'_>>,
     readable: Readable,
-    reader: Reader,
+    telling: Telling,
     strict: bool,
     face: Face,
 ) -> Result<Printed, Memory>
     ensures { IfOk result (λ printed. IsShown face
-        (SaysAnalysis reader strict readable contract.entry.text.now (option_map (λ source. source.text.now) state.entry))
+        (SaysAnalysis telling strict readable contract.entry.text.now (option_map (λ source. source.text.now) state.entry))
         (Tells contract.entry state.entry readable behind.Nothing) (streams_of printed)) }
 {
     let said = analysis_said(
@@ -182,7 +182,7 @@ pub fn analysis_shown(
         contract.text,
         text_if(state),
         readable,
-        reader,
+        telling,
         strict,
     )?;
     let wanted = said.is_explained(face);
@@ -198,20 +198,21 @@ pub fn analysis_shown(
     said.shown(alloc, face, &told)
 }
 
-/// What is printed for a play: what it tells, or why the scenario isn't played.
+/// What is printed for a play: what it tells, with big numbers as texts where they are wanted so, or why the scenario isn't played.
 pub fn play_shown<R: AllocGlobal + Threads + Wait + Sync, W: Watch + Sync>(
     rt: &R,
     watch: &W,
     scenario: Source<'_>,
     asked: marlowe_play::Asked<'_>,
+    big: bool,
     face: Face,
 ) -> Result<Printed, Memory>
     ensures { IfOk result (λ printed. IsShown face
-        (SaysPlay (of_text_within asked.entry.depth reads.scenario scenario.entry.text.now) (wanted asked.entry.face asked.entry.strict (map (λ s. s.now) asked.entry.kept_open.now)))
+        (SaysPlay big (of_text_within asked.entry.depth reads.scenario scenario.entry.text.now) (wanted asked.entry.face asked.entry.strict (map (λ s. s.now) asked.entry.kept_open.now)))
         (λ spelling. TellsScenario asked.entry.depth spelling scenario.entry) (streams_of printed)) }
 {
     let alloc = rt.alloc();
-    let said = play_said(rt, watch, scenario.text, asked)?;
+    let said = play_said(rt, watch, scenario.text, asked, big)?;
     let told = scenario_if(alloc, said.is_explained(face), scenario, asked.depth, face);
     said.shown(alloc, face, &told)
 }

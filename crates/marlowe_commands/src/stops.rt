@@ -1,4 +1,10 @@
 //! The texts that a task is about.
+ghost use Rattle.std.specs.Prelude.{IfOk};
+ghost use Rattle.marlowe_commands.specs.Streams.{Shows, streams_of};
+
+use crate::face::Face;
+use crate::printed::Printed;
+use crate::said::Said;
 use crate::texts::Texts;
 use collections::Memory;
 use marlowe_io::LoadFault;
@@ -51,7 +57,17 @@ pub fn texts_of<'a, T: Texts>(
     Ok(found)
 }
 
-fn put(found: &mut Vec<Vec<u8>>, text: Vec<u8>) -> Result<(), Memory> {
+/// One text more.
+pub fn put(found: &mut Vec<Vec<u8>>, text: Vec<u8>) -> Result<(), Memory> {
     found.push(text)?;
     Ok(())
+}
+
+/// What is printed for a file that can't be read.
+#[tactic(auto, using(crate::proofs::ShownLemmas::unreadable_shows))]
+pub fn unreadable(alloc: Global, path: &str, face: Face) -> Result<Printed, Memory>
+    ensures { IfOk result (λ printed. Shows face ⊥ ⊥ (streams_of printed)) }
+{
+    let said = Said::unreadable(alloc, path)?;
+    said.shown(alloc, face, &Vec::new(alloc))
 }

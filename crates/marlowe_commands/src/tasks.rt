@@ -15,18 +15,19 @@ use crate::said::{Refusal, Said};
 use big_texts::big_as_text;
 use collections::Memory;
 use line_objects::lines_object;
-use marlowe_analyse::{Analysed, Reader, analyse_text};
+use marlowe_analyse::{Analysed, Telling, analyse_text};
 use marlowe_next::next;
 use marlowe_play::{PlayFault, Played, Watch, play_asked, play_refusal};
 use marlowe_refusals::{Fault, RunFault, TableFault, TraceFault, json_fault_name};
 use marlowe_run::{Readable, run_within, table_text_within};
 use marlowe_trace::{Traced, trace};
 use refusal_objects::named_members;
+use setup_refusals::setup_members;
 use std::alloc::{AllocError, Global};
 use std::sync::Wait;
 use std::thread::Threads;
 
-// Outcomes, with their big numbers as texts where they are wanted so.
+// Outcomes, or what a play tells to tools, with their big numbers as texts where they are wanted so.
 fn outcomes(alloc: Global, text: Vec<u8>, big: bool) -> Result<Vec<u8>, Memory>
     ensures { IfOk result (λ written. written.items ≡ outcomes big text.items) }
 {
@@ -137,13 +138,13 @@ pub fn analysis_said(
     contract: &[u8],
     state: Option<&[u8]>,
     readable: Readable,
-    reader: Reader,
+    telling: Telling,
     strict: bool,
 ) -> Result<Said, Memory>
     ensures { IfOk result (λ said.
-        SaysAnalysis reader strict readable contract.now (option_map (λ text. text.now) state.entry) (saying_of said)) }
+        SaysAnalysis telling strict readable contract.now (option_map (λ text. text.now) state.entry) (saying_of said)) }
 {
-    match analyse_text(alloc, contract, state, readable, reader) {
+    match analyse_text(alloc, contract, state, readable, telling) {
         Ok(
             Analysed {
                 text,
@@ -169,30 +170,31 @@ fn analysis_status(strict: bool, clear: bool, unreached: bool) -> u8
     }
 }
 
-/// A play, while somebody is told how far it is: what it tells, with status 0, or with 3 where it is asked whether all went well and not all
-/// did; or a refusal.
+/// A play, while somebody is told how far it is: what it tells, with big numbers as texts where they are wanted so, and status 0, or 3 where it is
+/// asked whether all went well and not all did; or a refusal.
 pub fn play_said<R: AllocGlobal + Threads + Wait + Sync, W: Watch + Sync>(
     rt: &R,
     watch: &W,
     scenario: &[u8],
     asked: marlowe_play::Asked<'_>,
+    big: bool,
 ) -> Result<Said, Memory>
-    ensures { IfOk result (λ said. SaysPlay (of_text_within asked.entry.depth reads.scenario scenario.now)
+    ensures { IfOk result (λ said. SaysPlay big (of_text_within asked.entry.depth reads.scenario scenario.now)
         (wanted asked.entry.face asked.entry.strict (map (λ s. s.now) asked.entry.kept_open.now)) (saying_of said)) }
 {
     let alloc = rt.alloc();
     match play_asked(rt, alloc, scenario, asked, watch) {
-        Ok(played) => Ok(play_text(played)),
+        Ok(played) => Ok(play_text(alloc, played, big)?),
         Err(PlayFault::Memory) => Err(AllocError),
         Err(fault) => play_refused(alloc, fault),
     }
 }
 
-fn play_text(played: Played) -> Said
-    ensures { saying_of result ≡ says played.text.items (well_status played.well) }
+fn play_text(alloc: Global, played: Played, big: bool) -> Result<Said, Memory>
+    ensures { IfOk result (λ said. saying_of said ≡ says (outcomes big played.text.items) (well_status played.well)) }
 {
     let status = played.status();
-    Said::Text(played.text, status)
+    Ok(Said::Text(outcomes(alloc, played.text, big)?, status))
 }
 
 fn play_refused(alloc: Global, fault: PlayFault) -> Result<Said, Memory>
@@ -218,7 +220,7 @@ fn play_members(alloc: Global, fault: &PlayFault) -> Result<Vec<u8>, Memory>
 {
     match fault {
         PlayFault::Scenario(fault) => named_members(alloc, "scenario", json_fault_name(*fault)),
-        PlayFault::Setup(_) => named_members(alloc, "setup", "Refused"),
+        PlayFault::Setup(refusal) => setup_members(alloc, refusal),
         PlayFault::Memory => named_members(alloc, "memory", "Memory"),
     }
 }

@@ -4,19 +4,21 @@ ghost use Rattle.std.specs.Prelude.{IfOk};
 ghost use Rattle.marlowe_commands.specs.Streams.{AreNotes, Shows, streams_of};
 
 use crate::face::Face;
+use crate::files::{Gathered, Joined, gather, scenario_joined};
 use crate::noted::{
     contract_notes, noted, put, scenario_notes, state_notes, transaction_notes, transactions_notes,
 };
 use crate::printed::Printed;
 use crate::shown::{analysis_shown, next_shown, play_shown, run_shown, table_shown, trace_shown};
-use crate::stops::{Stop, text_if, text_of, texts_of};
+use crate::stops::{Stop, text_if, text_of, texts_of, unreadable};
 use crate::texts::Texts;
 use collections::Memory;
-use marlowe_analyse::Reader;
+use marlowe_analyse::Telling;
 use marlowe_cli::{AnalyseTask, NextTask, PlayTask, RunTask, TableTask, TraceTask};
 use marlowe_play::Watch;
 use marlowe_run::Readable;
 use refusal_reasons::{Source, Sources};
+use scenario_files::{FileName, files_of};
 use std::alloc::Global;
 use std::sync::Wait;
 use std::thread::Threads;
@@ -269,13 +271,13 @@ fn analysed(
     contract: Source<'_>,
     state: Option<Source<'_>>,
     readable: Readable,
-    reader: Reader,
+    telling: Telling,
     strict: bool,
     face: Face,
 ) -> Result<Printed, Memory>
     ensures { IfOk result (λ printed. Shows face (Unit {0}) ⊥ (streams_of printed)) }
 {
-    analysis_shown(alloc, contract, state, readable, reader, strict, face)
+    analysis_shown(alloc, contract, state, readable, telling, strict, face)
 }
 
 pub fn analysis_told<'a, T: Texts>(
@@ -288,14 +290,14 @@ pub fn analysis_told<'a, T: Texts>(
 {
     let contract = text_of(alloc, texts, task.contract)?;
     let state = text_if(alloc, texts, task.state)?;
-    let reader = reader_of(task.json, task.no_runs);
+    let telling = telling_of(&task);
     let readable = Readable {
         depth: task.depth,
         text_numbers: task.text_numbers,
     };
     let contract = source(task.contract, &contract);
     let state = source_if(task.state, &state);
-    let printed = analysed(alloc, contract, state, readable, reader, task.strict, face)?;
+    let printed = analysed(alloc, contract, state, readable, telling, task.strict, face)?;
     if !has_notes(task.explain, &printed) {
         return Ok(printed);
     }
@@ -303,18 +305,18 @@ pub fn analysis_told<'a, T: Texts>(
     Ok(noted(face, printed, &notes))
 }
 
-// Who reads an analysis, by its flags.
-fn reader_of(json: bool, no_runs: bool) -> Reader {
-    match (json, no_runs) {
-        (false, false) => Reader::People,
-        (true, false) => Reader::Tools,
-        (false, true) => Reader::PeopleWithoutRuns,
-        (true, true) => Reader::ToolsWithoutRuns,
+// How an analysis is told, by its flags.
+fn telling_of(task: &AnalyseTask<'_>) -> Telling {
+    Telling {
+        tools: task.json,
+        runs: !task.no_runs,
+        all: task.all,
+        notes: task.notes,
     }
 }
 
 // What a play tells, by its flags.
-fn telling(json: bool, explain: bool) -> marlowe_play::Face {
+fn play_face(json: bool, explain: bool) -> marlowe_play::Face {
     match (json, explain) {
         (true, _) => marlowe_play::Face::Objects,
         (false, true) => marlowe_play::Face::Explained,
@@ -335,12 +337,93 @@ fn played<R: AllocGlobal + Threads + Wait + Sync, W: Watch + Sync>(
 {
     let asked = marlowe_play::Asked {
         one: task.one,
-        face: telling(task.json, task.explain),
+        face: play_face(task.json, task.explain),
         depth: task.depth,
         strict: task.strict,
         kept_open: task.kept_open.as_slice(),
     };
-    play_shown(rt, watch, scenario, asked, face)
+    let big = task.json && task.big_as_text;
+    play_shown(rt, watch, scenario, asked, big, face)
+}
+
+// .. with notes on its text.
+fn play_noted<R: AllocGlobal + Threads + Wait + Sync, W: Watch + Sync>(
+    rt: &R,
+    watch: &W,
+    scenario: Source<'_>,
+    task: &PlayTask<'_>,
+    face: Face,
+) -> Result<Printed, Memory>
+    ensures { IfOk result (λ printed. Shows face (Unit {0}) ⊥ (streams_of printed)) }
+{
+    let printed = played(rt, watch, scenario, task, face)?;
+    if !has_notes(face == Face::Explained, &printed) {
+        return Ok(printed);
+    }
+    let notes = scenario_notes(rt.alloc(), scenario, task.depth);
+    Ok(noted(face, printed, &notes))
+}
+
+// .. with its files, each beside its text.
+fn play_joined<R: AllocGlobal + Threads + Wait + Sync, W: Watch + Sync>(
+    rt: &R,
+    watch: &W,
+    scenario: Source<'_>,
+    files: &[FileName],
+    texts: &[Vec<u8>],
+    task: &PlayTask<'_>,
+    face: Face,
+) -> Result<Printed, Memory>
+    ensures { IfOk result (λ printed. Shows face (Unit {0}) ⊥ (streams_of printed)) }
+{
+    match scenario_joined(rt.alloc(), scenario, task.depth, files, texts, face)? {
+        Joined::Text(whole) => play_noted(rt, watch, source(scenario.path, &whole), task, face),
+        Joined::Refused(printed) => Ok(printed),
+    }
+}
+
+// .. whose contracts may be files, where that is asked.
+#[tactic(auto, using(crate::proofs::ShownLemmas::widened_from_none))]
+fn play_filed<T: Texts, R: AllocGlobal + Threads + Wait + Sync, W: Watch + Sync>(
+    rt: &R,
+    texts: &T,
+    watch: &W,
+    scenario: Source<'_>,
+    task: &PlayTask<'_>,
+    face: Face,
+) -> Result<Printed, Memory>
+    ensures { IfOk result (λ printed. Shows face (Unit {0}) ⊥ (streams_of printed)) }
+{
+    let files = files_if(rt.alloc(), task.files, scenario.text, task.depth)?;
+    if files.is_empty() {
+        return play_noted(rt, watch, scenario, task, face);
+    }
+    match gather(rt.alloc(), texts, scenario.path, files.as_slice())? {
+        Gathered::Texts(found) => play_joined(
+            rt,
+            watch,
+            scenario,
+            files.as_slice(),
+            found.as_slice(),
+            task,
+            face,
+        ),
+        Gathered::Unreadable(path) => unreadable(rt.alloc(), path.as_str(), face),
+    }
+}
+
+// The contracts that are given as files, where they may be.
+fn files_if(
+    alloc: Global,
+    wanted: bool,
+    scenario: &[u8],
+    depth: usize,
+) -> Result<Vec<FileName>, Memory> {
+    if wanted {
+        files_of(alloc, scenario, depth)
+    } else {
+        Ok(Vec::new(alloc))
+    }
 }
 
 pub fn play_told<'a, T: Texts, R: AllocGlobal + Threads + Wait + Sync, W: Watch + Sync>(
@@ -354,10 +437,6 @@ pub fn play_told<'a, T: Texts, R: AllocGlobal + Threads + Wait + Sync, W: Watch 
 {
     let scenario = text_of(rt.alloc(), texts, task.scenario)?;
     let scenario = source(task.scenario, &scenario);
-    let printed = played(rt, watch, scenario, &task, face)?;
-    if !has_notes(face == Face::Explained, &printed) {
-        return Ok(printed);
-    }
-    let notes = scenario_notes(rt.alloc(), scenario, task.depth);
-    Ok(noted(face, printed, &notes))
+    let printed = play_filed(rt, texts, watch, scenario, &task, face)?;
+    Ok(printed)
 }

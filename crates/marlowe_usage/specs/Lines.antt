@@ -87,15 +87,19 @@ next_rules = given (codes "CONTRACT") ∷ optional (codes "STATE") ∷ time (cod
 abbrev pub table_rules : List Rule
 table_rules = given (codes "CONTRACT") ∷ json ∷ depth ∷ explain ∷ []
 
--- `analyse CONTRACT [STATE] [--json] [--no-runs] [--strict] [--depth N] [--text-numbers] [--explain]`
+-- `analyse CONTRACT [STATE] [--json] [--no-runs] [--all] [--notes] [--strict] [--depth N] [--text-numbers] [--explain]`
 abbrev pub analyse_rules : List Rule
-analyse_rules = given (codes "CONTRACT") ∷ optional (codes "STATE") ∷ json ∷ flag (codes "no-runs") ∷ flag (codes "strict")
-    ∷ depth ∷ text_numbers ∷ explain ∷ []
+analyse_rules = given (codes "CONTRACT") ∷ optional (codes "STATE") ∷ json ∷ flag (codes "no-runs") ∷ flag (codes "all") ∷ flag (codes "notes")
+    ∷ flag (codes "strict") ∷ depth ∷ text_numbers ∷ explain ∷ []
 
--- `play SCENARIO [--one] [--strict] [--expect-open NAME].. [--json] [--depth N] [--explain]`
+-- `play SCENARIO [--one] [--files] [--strict] [--expect-open NAME].. [--json] [--depth N] [--big-as-text] [--explain]`
 abbrev pub play_rules : List Rule
-play_rules = given (codes "SCENARIO") ∷ flag (codes "one") ∷ flag (codes "strict") ∷ options (codes "expect-open")
-    ∷ json ∷ depth ∷ flag (codes "explain") ∷ []
+play_rules = given (codes "SCENARIO") ∷ flag (codes "one") ∷ flag (codes "files") ∷ flag (codes "strict") ∷ options (codes "expect-open")
+    ∷ json ∷ depth ∷ big_as_text ∷ flag (codes "explain") ∷ []
+
+-- `serve [--depth N] [--text-numbers]`
+abbrev pub serve_rules : List Rule
+serve_rules = depth ∷ text_numbers ∷ []
 
 -- the program without its commands: it has a version and needs a command
 abbrev pub program : App
@@ -106,7 +110,8 @@ program = record (new_app (codes "marlowe")) {
 -- the commands, in the order in which help lists them
 abbrev pub commands : List App
 commands = command (codes "run") run_rules ∷ command (codes "trace") trace_rules ∷ command (codes "next") next_rules
-    ∷ command (codes "table") table_rules ∷ command (codes "analyse") analyse_rules ∷ command (codes "play") play_rules ∷ []
+    ∷ command (codes "table") table_rules ∷ command (codes "analyse") analyse_rules ∷ command (codes "play") play_rules
+    ∷ command (codes "serve") serve_rules ∷ []
 
 -- the whole command line
 abbrev pub command_line : App

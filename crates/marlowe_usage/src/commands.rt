@@ -1,7 +1,7 @@
 //! The commands, with their arguments and help.
 ghost use Rattle.std.specs.Prelude.{IfOk, codes};
 ghost use Rattle.marlowe_usage.specs.Lines.{IsArgument, IsCommand, IsDraft, given, json, depth, text_numbers, big_as_text, explain, command, program};
-ghost use Rattle.marlowe_usage.specs.Lines.{run_rules, trace_rules, next_rules, table_rules, analyse_rules, play_rules, command_line};
+ghost use Rattle.marlowe_usage.specs.Lines.{run_rules, trace_rules, next_rules, table_rules, analyse_rules, play_rules, serve_rules, command_line};
 
 use crate::draft::Draft;
 use crate::kinds::{depth_option, flag, given, option, optional, options, several, time};
@@ -19,6 +19,7 @@ pub fn command_line<'a>(alloc: Global) -> Result<Command<'a>, AllocError>
         .with_command(table_command(alloc))
         .with_command(analyse_command(alloc))
         .with_command(play_command(alloc))
+        .with_command(serve_command(alloc))
         .made()
 }
 
@@ -175,6 +176,8 @@ fn analyse_command<'a>(alloc: Global) -> Draft<'a>
         "An alarm has its kind, its place in the contract's text, and a run that ends in it, a transaction a line, or\n`not known`. What is promised, and what `not known` means, is described in docs/analysis.md.\n\nStatus 0: it never warns and stays within 128 bits. 3: there is an alarm. 1: a text is refused; with --json 4.\n2: a file or these words are at fault.\n\nExample:\n  marlowe analyse contract.json --no-runs";
     let state = "The state from which it starts; without it no accounts and time 0";
     let no_runs = "Looks for no runs, which takes most of the time where none is found";
+    let all = "Tells each alarm in full, also those of one kind at equal parts";
+    let notes = "Tells what is likely a slip, though no run warns of it";
     let strict = "Status 3 also where a part is told that no run reaches";
     Draft::new(alloc, "analyse", about)
         .after_help(after_help)
@@ -182,6 +185,8 @@ fn analyse_command<'a>(alloc: Global) -> Draft<'a>
         .with(optional(alloc, "STATE", state))
         .with(json(alloc))
         .with(flag(alloc, "no-runs", no_runs))
+        .with(flag(alloc, "all", all))
+        .with(flag(alloc, "notes", notes))
         .with(flag(alloc, "strict", strict))
         .with(depth(alloc))
         .with(text_numbers(alloc))
@@ -196,18 +201,35 @@ fn play_command<'a>(alloc: Global) -> Draft<'a>
         "A scenario says what a ledger begins with, which contracts are published and started on it,\nand what each party means to do there. Its form is described in docs/formats.md.\n\nStatus 0: it was played to its end. 3: with --strict, not all went well. 1: the scenario or its setup\nis refused; with --json 4 for its text. 2: a file or these words are at fault.\n\nExample:\n  marlowe play scenario.json --one";
     let scenario = "The scenario, as a JSON file";
     let one = "Plays the plans one after another, so that the text is always the same";
+    let files =
+        "Reads a contract that is {\"file\":PATH} from that file; PATH begins in the scenario's folder";
     let explain =
         "Says what each step did, what was refused or not built, how each intent ended, and who holds what";
     let strict = "Status 3 where an intent isn't done, or a thread isn't closed at the end";
+    let big = "With --json, writes numbers outside -2^53 to 2^53 as texts";
     let open =
         "With --strict, a thread that may stay open, by its name; as often as there are such";
     Draft::new(alloc, "play", about)
         .after_help(after_help)
         .with(given(alloc, "SCENARIO", scenario))
         .with(flag(alloc, "one", one))
+        .with(flag(alloc, "files", files))
         .with(flag(alloc, "strict", strict))
         .with(options(alloc, "expect-open", "NAME", open))
         .with(json(alloc))
         .with(depth(alloc))
+        .with(flag(alloc, "big-as-text", big))
         .with(flag(alloc, "explain", explain))
+}
+
+fn serve_command<'a>(alloc: Global) -> Draft<'a>
+    ensures { IsDraft (command (codes "serve") serve_rules) result }
+{
+    let about = "Answers requests, one on each line of standard input, by a line each.";
+    let after_help =
+        "A request is a JSON object on one line, as {\"id\":7,\"table\":{\"contract\":\"close\"}}, and its answer an object on a\nline of standard output. What may be asked is described in docs/formats.md.\n\nStatus 0: the requests have ended, and each has its answer. 1: memory was refused. 2: standard input can't be read,\nstandard output can't be written, or these words are at fault.\n\nExample:\n  marlowe serve < requests.jsonl";
+    Draft::new(alloc, "serve", about)
+        .after_help(after_help)
+        .with(depth(alloc))
+        .with(text_numbers(alloc))
 }

@@ -1,5 +1,7 @@
 //! What command lines ask for.
-use marlowe_cli::{AnalyseTask, NextTask, PlayTask, RunTask, TableTask, Task, TraceTask, line};
+use marlowe_cli::{
+    AnalyseTask, NextTask, PlayTask, RunTask, ServeTask, TableTask, Task, TraceTask, line,
+};
 use std::alloc::{AllocError, Global};
 
 /// What a command line asks for, or where the text of `clap` goes.
@@ -23,6 +25,7 @@ fn task_told(alloc: Global, task: &Task<'_>) -> Result<String, AllocError> {
         Task::Table(table) => table_told(alloc, table),
         Task::Analyse(analyse) => analysis_told(alloc, analyse),
         Task::Play(play) => play_told(alloc, play),
+        Task::Serve(serve) => serve_told(alloc, serve),
     }
 }
 
@@ -77,11 +80,13 @@ fn analysis_told(alloc: Global, analyse: &AnalyseTask<'_>) -> Result<String, All
     let state = state_told(analyse.state);
     let form = form_told(analyse.json);
     let runs = if analyse.no_runs { " without runs" } else { "" };
+    let all = if analyse.all { " in full" } else { "" };
+    let notes = if analyse.notes { " with notes" } else { "" };
     let strictly = if analyse.strict { " strictly" } else { "" };
     let texts = texts_told(analyse.text_numbers);
     let explained = explain_told(analyse.explain);
     format!(in alloc;
-        "analyse {} {state}{form}{runs}{strictly}{texts}{explained}",
+        "analyse {} {state}{form}{runs}{all}{notes}{strictly}{texts}{explained}",
         analyse.contract
     )
 }
@@ -92,8 +97,15 @@ fn play_told(alloc: Global, play: &PlayTask<'_>) -> Result<String, AllocError> {
     } else {
         "at once"
     };
+    let files = if play.files { " with files" } else { "" };
+    let big = big_told(play.big_as_text);
     let explained = explain_told(play.explain);
-    format!(in alloc; "play {} {how}{explained}", play.scenario)
+    format!(in alloc; "play {} {how}{files}{big}{explained}", play.scenario)
+}
+
+fn serve_told(alloc: Global, serve: &ServeTask) -> Result<String, AllocError> {
+    let texts = texts_told(serve.text_numbers);
+    format!(in alloc; "serve to {} levels{texts}", serve.depth)
 }
 
 fn state_told<'a>(state: Option<&'a str>) -> &'a str {

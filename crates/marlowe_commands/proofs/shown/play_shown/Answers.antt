@@ -11,7 +11,7 @@ use Rattle.marlowe_commands.proofs.shown.play_shown.Goals as goal
 pub returns : goal.returns
 returns g c =
     shown_by c.args.face
-    (SaysPlay (of_text_within c.args.asked.depth reads.scenario c.args.scenario.text.now)
+    (SaysPlay c.args.big (of_text_within c.args.asked.depth reads.scenario c.args.scenario.text.now)
     (wanted c.args.asked.face c.args.asked.strict (map (λ s. s.now) c.args.asked.kept_open.now)))
     (λ spelling. TellsScenario c.args.asked.depth spelling c.args.scenario) (saying_of c.in_ok-said.said) c.scenario_if-told.result.items
     c.shown.result c.in_ok-said.ensures c.scenario_if-told.ensures c.shown.ensures

@@ -15,10 +15,14 @@ returns c =
     let three = with_rule two json in
     let with_four = c.with-4.ensures three (flag (codes "no-runs")) with_three c.flag.ensures in
     let four = with_rule three (flag (codes "no-runs")) in
-    let with_five = c.with-5.ensures four (flag (codes "strict")) with_four c.flag-2.ensures in
-    let five = with_rule four (flag (codes "strict")) in
-    let with_six = c.with-6.ensures five depth with_five c.depth.ensures in
-    let six = with_rule five depth in
-    let with_seven = c.with-7.ensures six text_numbers with_six c.text_numbers.ensures in
-    let seven = with_rule six text_numbers in
-    c.with-8.ensures seven explain with_seven c.explain.ensures
+    let with_five = c.with-5.ensures four (flag (codes "all")) with_four c.flag-2.ensures in
+    let five = with_rule four (flag (codes "all")) in
+    let with_six = c.with-6.ensures five (flag (codes "notes")) with_five c.flag-3.ensures in
+    let six = with_rule five (flag (codes "notes")) in
+    let with_seven = c.with-7.ensures six (flag (codes "strict")) with_six c.flag-4.ensures in
+    let seven = with_rule six (flag (codes "strict")) in
+    let with_eight = c.with-8.ensures seven depth with_seven c.depth.ensures in
+    let eight = with_rule seven depth in
+    let with_nine = c.with-9.ensures eight text_numbers with_eight c.text_numbers.ensures in
+    let nine = with_rule eight text_numbers in
+    c.with-10.ensures nine explain with_nine c.explain.ensures

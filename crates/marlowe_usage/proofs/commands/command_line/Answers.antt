@@ -1,6 +1,6 @@
 use Rattle.std.proofs.Common.{codes}
 use Rattle.clap.specs.Words.{with_subcommand}
-use Rattle.marlowe_usage.specs.Lines.{command, program, run_rules, trace_rules, next_rules, table_rules, analyse_rules, play_rules}
+use Rattle.marlowe_usage.specs.Lines.{command, program, run_rules, trace_rules, next_rules, table_rules, analyse_rules, play_rules, serve_rules}
 use Rattle.marlowe_usage.proofs.commands.command_line.Goals as goal
 
 pub returns : goal.returns
@@ -15,5 +15,7 @@ returns c =
     let four = with_subcommand three (command (codes "table") table_rules).top in
     let with_five = c.with_command-5.ensures four (command (codes "analyse") analyse_rules) with_four c.analyse_command.ensures in
     let five = with_subcommand four (command (codes "analyse") analyse_rules).top in
-    let made = c.with_command-6.ensures five (command (codes "play") play_rules) with_five c.play_command.ensures in
+    let with_six = c.with_command-6.ensures five (command (codes "play") play_rules) with_five c.play_command.ensures in
+    let six = with_subcommand five (command (codes "play") play_rules).top in
+    let made = c.with_command-7.ensures six (command (codes "serve") serve_rules) with_six c.serve_command.ensures in
     rw c.made.ensures made

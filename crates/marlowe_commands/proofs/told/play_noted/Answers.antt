@@ -1,6 +1,6 @@
 use Rattle.marlowe_commands.specs.Streams.{streams_of}
 use Rattle.marlowe_commands.proofs.ShownLemmas.{noted_by}
-use Rattle.marlowe_commands.proofs.told.play_told.Goals as goal
+use Rattle.marlowe_commands.proofs.told.play_noted.Goals as goal
 
 pub returns : goal.returns
 returns g c =
