@@ -5,8 +5,9 @@ use crate::faults::play_faults;
 use crate::files::{loaded, removed, saved};
 use crate::folder::Folder;
 use crate::shown::shown;
+use crate::streams::streamed;
 use collections::Memory;
-use marlowe_commands::{NoWatch, Printed, command};
+use marlowe_commands::{Command, NoWatch, Printed, command};
 use rows_given::Given;
 use rows_text::{RowFault, first};
 use rows_values::answer_of;
@@ -50,7 +51,8 @@ fn command_row<R: Files + AllocGlobal + Threads + Wait + Sync>(
     Ok(shown(rt.alloc(), &printed, asked.part)?)
 }
 
-/// What the program prints for the words behind its name, and more behind these.
+/// What the program prints for the words behind its name, and more behind these; of a stream, what it answers to the requests that are given as
+/// standard input.
 pub fn printed<R: Files + AllocGlobal + Threads + Wait + Sync>(
     rt: &R,
     given: &Given,
@@ -62,8 +64,10 @@ pub fn printed<R: Files + AllocGlobal + Threads + Wait + Sync>(
     words.push(String::from_str(alloc, "marlowe")?)?;
     put_words(alloc, &mut words, line)?;
     put_words(alloc, &mut words, more)?;
-    let printed = command(rt, &Folder { rt, given }, &NoWatch, words.as_slice(), false);
-    Ok(printed?)
+    match command(rt, &Folder { rt, given }, &NoWatch, words.as_slice(), false)? {
+        Command::Printed(printed) => Ok(printed),
+        Command::Serve(readable) => streamed(rt, given, readable),
+    }
 }
 
 fn put_words(alloc: Global, words: &mut Vec<String>, line: &str) -> Result<(), Memory> {

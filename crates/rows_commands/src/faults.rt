@@ -1,6 +1,7 @@
 //! The values of the fault of `play`, one after another.
+use collections::Text;
 use contract_json::JsonFault;
-use marlowe_commands::PlayFault;
+use marlowe_commands::{Cause, PlayFault, SetupRefusal};
 use rows_text::{RowFault, texts_of};
 use std::alloc::Global;
 
@@ -8,7 +9,10 @@ use std::alloc::Global;
 pub fn play_faults(alloc: Global) -> Result<Vec<u8>, RowFault> {
     let faults = [
         PlayFault::Scenario(JsonFault::NoForm),
-        PlayFault::Setup(Vec::new(alloc)),
+        PlayFault::Setup(SetupRefusal::Genesis(Cause {
+            fault: Text::from_string(String::new(alloc)),
+            words: Text::from_string(String::new(alloc)),
+        })),
         PlayFault::Memory,
     ];
     let texts = texts_of(alloc, faults.as_slice())?;

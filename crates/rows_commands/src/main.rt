@@ -4,7 +4,7 @@
 //! The lines before a row say what files hold, as `rows_given` says, in place of those that lie here. `rows_values` has the rows of what
 //! only calls of the libraries say, as those of `data/values`: JSON, bytes, copies, texts of faults. These are rows of command lines:
 //!
-//! - `marlowe WORDS` is a command line whose words have no spaces in them;
+//! - `marlowe WORDS` is a command line whose words have no spaces in them, and standard input holds what the file `-` does;
 //! - `run TEXT` keeps a text in `transaction.json` and is `marlowe run contract.json state.json transaction.json`;
 //! - `trace TEXT` keeps a text in `transactions.json` and is `marlowe trace contract.json transactions.json`, with `--state state.json`
 //!   behind it where a state is given;
@@ -34,6 +34,7 @@ mod faults;
 mod files;
 mod folder;
 mod shown;
+mod streams;
 
 use crate::answers::answer;
 use marlowe_commands::STACK;

@@ -43,8 +43,10 @@ fn put_output(lines: &mut Vec<u8>, output: &[u8], part: Part) -> Result<(), Memo
         Part::All | Part::Alarms => 0,
     };
     let mut place = 0usize;
+    let mut is_of_bound = false;
     for line in without_end(output).split(|byte| *byte == b'\n') {
-        if place >= left_out && !is_left_out(part, line) {
+        is_of_bound = is_left_out(part, line, is_of_bound);
+        if place >= left_out && !is_of_bound {
             put_line(lines, line)?;
         }
         place = place.saturating_add(1);
@@ -63,10 +65,15 @@ fn count_of(text: &[u8]) -> usize {
     count
 }
 
-// Whether a line of an analysis tells what a party is paid, which begins with the party, and alarms alone are wanted.
-fn is_left_out(part: Part, line: &[u8]) -> bool {
+// Whether a line of an analysis tells what a party is paid, which begins with the party, or a run to such a bound, which stands behind
+// it, and alarms alone are wanted.
+fn is_left_out(part: Part, line: &[u8], is_behind_bound: bool) -> bool {
     match part {
-        Part::Alarms => line.starts_with(b"{\"address\"") || line.starts_with(b"{\"role_token\""),
+        Part::Alarms => {
+            line.starts_with(b"{\"address\"")
+                || line.starts_with(b"{\"role_token\"")
+                || is_behind_bound && line.starts_with(b"{\"tx_inputs\"")
+        }
         _ => false,
     }
 }
