@@ -1,7 +1,7 @@
 #!/usr/bin/env python3
 """Makes the suite's cases: those written by hand, whose answers must be the interpreter's, and random ones until each subject has its number.
 
-Usage    make.py             writes cases/SUBJECT.jsonl
+Usage    make.py             writes cases/SUBJECT.jsonl, and the arguments of the row program `rows_suite` and what it prints
          make.py --check     sees that the files are as it would write them
 Needs    nothing built; some minutes.
 Expect   a line for each subject: its cases, how many of them are by hand, how many paths are new, and the bytes.
@@ -11,6 +11,8 @@ A random case is kept where its path is new: the rules that it takes, in their o
 number, runs of checks/compare.py are added as long as they bring two rules one after the other that no case has yet. At last the longest are left out.
 """
 import importlib
+import json
+import multiprocessing
 import os
 import sys
 from collections import Counter
@@ -22,16 +24,19 @@ import shrink
 import suite
 
 BY_HAND = ("evaluation", "division", "intervals", "reductions", "warned_of", "payments", "inputs", "bits", "long", "readings", "faults",
-    "round_trips", "streams")
+    "round_trips", "streams", "rows")
 # How many random cases a subject has, and the most bytes that one takes in its file.
 QUOTAS = {"evaluation": (860, 700), "division": (420, 700), "intervals": (440, 800), "reductions": (640, 1100), "warnings": (480, 1300),
-          "payments": (640, 1500), "inputs": (640, 1300), "bits": (560, 1100), "traces": (420, 2400), "warned": (220, 1900), "faults": (420, 600),
+          "payments": (640, 1500), "inputs": (640, 1300), "bits": (560, 1100), "traces": (420, 2400), "gallery": (40, 7000), "warned": (220, 1900),
+          "faults": (420, 600),
           "round_trips": (320, 1400), "readings": (260, 900)}
 # How many paths stay once the longest random cases are left out, the least part of a subject that stays, and of a rule.
 PATHS, PART, OF_A_RULE = 6_400, 0.6, 12
 # How many runs of compare.py are looked through for new pairs, in how many tries one is made smaller, and the most bytes of one.
-MIXED, SHRINKS, LARGEST_MIXED = 20_000, 150, 2500
+MIXED, SHRINKS, LARGEST_MIXED = 100_000, 600, 5000
 TRIES = 40
+# How many processes work, and how many cases are made at once. They make no difference to what is made.
+PROCESSES, BLOCK = 8, 160
 NUMBERS_OF = {"BadState": "states", "NotWhole": "whole numbers", "OutOfRange": "times", "Merkleized": "merkleized"}
 
 
@@ -39,9 +44,7 @@ NUMBERS_OF = {"BadState": "states", "NotWhole": "whole numbers", "OutOfRange": "
 
 def outcomes(answer):
     told = answer.get("ok")
-    if not isinstance(told, dict):
-        return []
-    return told["outcomes"] if "outcomes" in told else [told] if "payments" in told else []
+    return told if isinstance(told, list) else [told] if isinstance(told, dict) and "payments" in told else []
 
 
 def has_order(state):
@@ -111,13 +114,12 @@ RULES_OF_SORTS = {"contract": "contract", "state": "state", "transaction": "inpu
 
 def rule_for(subject, case, path, counts):
     """The rule of the subject that fewest random cases have so far, of those that a case shows."""
-    if subject == "traces":
+    if subject in ("traces", "gallery"):
         return "stops" if "refused" in case["answer"] else "goes on"
     if subject == "warned":
         return "run to " + outcomes(case["answer"])[-1]["warnings"][0]["warning"]
-    refused = case["answer"].get("refused", {})
-    if refused.get("of") in reference.READERS:
-        return refused["name"]
+    if suite.is_unread(case["answer"]):
+        return case["answer"]["refused"]["name"]
     if subject == "faults":
         return RULES_OF_SORTS[next(iter(case["ask"]["read"]))]
     if subject in OF_TEXTS:
@@ -156,14 +158,23 @@ class Suite:
                 told, path = suite.told_by(line)
                 if suite.compact(told) != suite.compact({"id": given, **case["answer"]}):
                     sys.exit(f"{case['subject']}: {case['name']}\nby hand {suite.compact(case['answer'])}\nhere    {suite.compact(told)}")
+                if case["subject"] is None:
+                    case["subject"], case["rule"] = self.place_of(case, path)
                 self.put(case, path)
                 self.hand.add((case["subject"], case["name"]))
 
-    def random(self, subject, seed, ask, largest):
+    def place_of(self, case, path):
+        """The subject and the rule of a case that is made of a row: those that its path shows."""
+        asked = json.loads("{" + case["text"] + "}")
+        subject = "traces" if "trace" in asked else None
+        rule = rule_for(subject, {**case, "ask": asked}, path, self.counts)
+        return subject_for(subject, {**case, "rule": rule, "ask": asked}, path) or rules.RULES[rule][0], rule
+
+    def random(self, subject, seed, made, largest):
         """Puts a random case, where it is short and its path new."""
+        ask, told, path = made
         if ask is None:
             return False
-        told, path = answer_and_path(subject, ask)
         case = {"subject": subject, "name": f"random {seed}", "rule": "", "choices": [], "ask": ask, "answer": told}
         if len(suite.written(case)) > largest or path in self.paths or not fits(subject, case, path):
             return False
@@ -174,22 +185,24 @@ class Suite:
         self.put(case, path)
         return True
 
-    def fill(self, subject):
+    def fill(self, subject, pool):
         count, largest = QUOTAS[subject]
         seed = found = 0
         while found < count and seed < count * TRIES:
-            found += self.random(subject, seed, random_cases.asked(subject, seed), largest)
-            seed += 1
+            for made in pool.starmap(made_of, [(subject, seed + more) for more in range(BLOCK)], BLOCK // 16):
+                found += found < count and self.random(subject, seed, made, largest)
+                seed += 1
 
-    def mixed(self):
+    def mixed(self, pool):
         """Puts a case for each pair of rules that no case has yet, made smaller as long as it has that pair."""
-        for seed in range(MIXED):
-            ask = random_cases.asked("mixed", seed)
-            for pair in sorted(suite.pairs_of(taken_by(ask)) - self.pairs):
-                if pair not in self.pairs:
-                    less, _ = shrink.shrunk(ask, lambda less: pair in suite.pairs_of(taken_by(less)), SHRINKS)
-                    self.random("mixed", f"{seed} with {pair[0]}, {pair[1]}", less, LARGEST_MIXED)
-
+        first = {}
+        for seed, pairs in enumerate(pool.imap(mixed_pairs, range(MIXED), BLOCK)):
+            for pair in pairs - self.pairs:
+                first.setdefault(pair, seed)
+        jobs = sorted((seed, pair) for pair, seed in first.items())
+        for (seed, pair), made in zip(jobs, pool.imap(mixed_with, jobs)):
+            if pair not in self.pairs:
+                self.random("mixed", f"{seed} with {pair[0]}, {pair[1]}", made, LARGEST_MIXED)
 
     def slim(self):
         """Leaves out the longest random cases, but for those that alone have a pair of rules, and such as their subject or rule has too few of."""
@@ -206,6 +219,23 @@ class Suite:
                 self.new[subject] -= 1
                 self.counts[case["rule"]] -= 1
                 pairs.subtract(own)
+
+
+def made_of(subject, seed):
+    """What a random case asks, its answer and its path."""
+    ask = random_cases.asked(subject, seed)
+    return (None, None, None) if ask is None else (ask, *answer_and_path(subject, ask))
+
+
+def mixed_pairs(seed):
+    return suite.pairs_of(taken_by(random_cases.asked("mixed", seed)))
+
+
+def mixed_with(job):
+    """The same of a run of compare.py that has a pair of rules, made smaller."""
+    seed, pair = job
+    less, _ = shrink.shrunk(random_cases.asked("mixed", seed), lambda less: pair in suite.pairs_of(taken_by(less)), SHRINKS)
+    return less, *answer_and_path("mixed", less)
 
 
 def answer_and_path(subject, ask):
@@ -229,7 +259,7 @@ def fits(subject, case, path):
     """Whether a case is of use to the subject that it was made for."""
     if subject == "bits":
         return is_large(path)
-    return subject != "faults" or "read" in case["ask"] or case["answer"].get("refused", {}).get("of") in reference.READERS
+    return subject != "faults" or "read" in case["ask"] or suite.is_unread(case["answer"])
 
 
 def is_large(path):
@@ -238,45 +268,52 @@ def is_large(path):
 
 def subject_for(subject, case, path):
     """The subject of a random case: what reads otherwise than it was meant to is a fault, and numbers that are large stand apart."""
-    told = case["answer"]
-    if told.get("refused", {}).get("of") in reference.READERS:
+    if suite.is_unread(case["answer"]):
         return "faults"
     if subject == "faults":
         return "readings"
     if is_large(path) and "run" in case["ask"]:
         return "bits"
-    return rules.RULES[case["rule"]][0] if subject == "mixed" else subject
+    return rules.RULES[case["rule"]][0] if subject == "mixed" else "traces" if subject == "gallery" else subject
 
 
 def made():
     found = Suite()
     found.by_hand()
     hand = {subject: len(cases) for subject, cases in found.cases.items()}
-    for subject in QUOTAS:
-        found.fill(subject)
-        print(f"{subject} filled", file=sys.stderr, flush=True)
-    found.mixed()
+    with multiprocessing.Pool(PROCESSES) as pool:
+        for subject in QUOTAS:
+            found.fill(subject, pool)
+            print(f"{subject} filled", file=sys.stderr, flush=True)
+        found.mixed(pool)
     found.slim()
     return found, hand
 
 
+def kept(name):
+    with open(os.path.join(suite.CRATE, name), encoding="utf-8", newline="\n") as file:
+        return file.read()
+
+
 def text_of(cases):
-    return "".join(suite.written(case) + "\n" for case in cases)
+    lines = [suite.written(case, number) for number, case in enumerate(cases, 1)]
+    if any(line.count("\t") != 4 for line in lines):
+        sys.exit("a tab stands inside a case")
+    return "".join(line + "\n" for line in lines)
 
 
 def main():
     found, hand = made()
-    differ = []
+    texts = {}
     for subject, cases in found.cases.items():
-        path, text = os.path.join(suite.FOLDER, subject + ".jsonl"), text_of(cases)
-        if sys.argv[1:] == ["--check"]:
-            with open(path, encoding="utf-8") as file:
-                differ += [subject] * (file.read() != text)
-        else:
-            os.makedirs(suite.FOLDER, exist_ok=True)
-            with open(path, "w", encoding="utf-8") as file:
-                file.write(text)
+        text = texts[os.path.join("data", subject + ".jsonl")] = text_of(cases)
         print(f"{subject:12} {len(cases):5} cases, {hand[subject]:4} by hand, {found.new[subject]:5} paths, {len(text.encode()):8} bytes")
+    texts.update(suite.rows_of({subject: len(cases) for subject, cases in found.cases.items()}))
+    differ = [] if sys.argv[1:] != ["--check"] else [name for name, text in texts.items() if kept(name) != text]
+    if sys.argv[1:] != ["--check"]:
+        for name, text in texts.items():
+            with open(os.path.join(suite.CRATE, name), "w", encoding="utf-8", newline="\n") as file:
+                file.write(text)
     total = sum(map(len, found.cases.values()))
     print(f"{total} cases, {sum(hand.values())} by hand, {sum(found.new.values())} paths, {len(found.pairs)} pairs of rules")
     if differ:

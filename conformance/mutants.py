@@ -6,6 +6,7 @@ Usage    mutants.py
 Expect   a line for each wrong engine: how many cases of the subject that its rule belongs to notice it, at least three; and status 0.
 Else     `NOT NOTICED`, with how many cases there are, and status 1.
 """
+import multiprocessing
 import os
 import sys
 import types
@@ -14,7 +15,8 @@ import reference
 import rules
 import suite
 
-LEAST = 3
+# By how many cases a wrong engine is to be noticed, and how long the lines are that it is asked.
+LEAST, LONGEST = 3, 100_000
 INTERPRETER, READINGS = reference.interpreter.__file__, reference.readings.__file__
 
 # The rule that is broken, what the engine does wrong, and the change.
@@ -170,7 +172,7 @@ def of_request(case):
 
 def known(case):
     """A case with its line, what that is as JSON data, and its answer as a text."""
-    line, _ = suite.line_of(case)
+    line = case["sent"]
     try:
         request = reference.readings.parsed(line, reference.LONGEST, reference.DEEPEST)
     except reference.readings.Fault:
@@ -185,20 +187,33 @@ def put(name, module):
     reference.READERS = {"contract": readers.contract, "state": readers.state, "transaction": readers.transaction, "input": readers.given}
 
 
-def main():
-    cases, failed = {}, 0
-    for case in suite.load():
-        if not isinstance(case.get("line"), list):
-            cases.setdefault(case["subject"], []).append(known(case))
-    for name, path, rows, answer in (("interpreter", INTERPRETER, OF_RUNS, of_request), ("readings", READINGS, OF_TEXTS, of_line)):
-        right = getattr(reference, name)
-        for rule, wrong, old, new in rows:
-            put(name, changed(path, old, new))
-            subject = rules.RULES[rule][0]
-            count = noticed(cases[subject], answer)
-            failed += count < LEAST
-            print(f"{'' if count >= LEAST else 'NOT NOTICED '}{wrong}: {count} of {len(cases[subject])} cases of {subject}")
+CASES = {}
+KINDS = (("interpreter", INTERPRETER, OF_RUNS, of_request), ("readings", READINGS, OF_TEXTS, of_line))
+
+
+def count_of(job):
+    """How many cases of its subject notice a wrong engine."""
+    kind, row = job
+    name, path, rows, answer = KINDS[kind]
+    rule, _, old, new = rows[row]
+    right = getattr(reference, name)
+    put(name, changed(path, old, new))
+    try:
+        return noticed(CASES[rules.RULES[rule][0]], answer)
+    finally:
         put(name, right)
+
+
+def main():
+    for case in suite.load():
+        if len(case["sent"]) < LONGEST:
+            CASES.setdefault(case["subject"], []).append(known(case))
+    jobs, failed = [(kind, row) for kind, (_, _, rows, _) in enumerate(KINDS) for row in range(len(rows))], 0
+    with multiprocessing.get_context("fork").Pool() as pool:
+        for (kind, row), count in zip(jobs, pool.imap(count_of, jobs)):
+            rule, wrong, _, _ = KINDS[kind][2][row]
+            failed += count < LEAST
+            print(f"{'' if count >= LEAST else 'NOT NOTICED '}{wrong}: {count} of {len(CASES[rules.RULES[rule][0]])} cases of {rules.RULES[rule][0]}")
     print(f"{len(OF_RUNS)} wrong interpreters, {len(OF_TEXTS)} wrong readers, {failed} not noticed")
     return int(failed > 0)
 

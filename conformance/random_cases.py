@@ -2,6 +2,10 @@
 
 Usage    make.py imports it. `asked(subject, seed)` gives a request of that subject, the same for the same seed.
 """
+import glob
+import json
+import os
+
 import reference
 import words
 from words import (A, ADA, B, CLOSE, END, NOTIFY, START, T, X, choice, choose, chooses, deposit, deposits, divide, ensure, into, let, money,
@@ -240,7 +244,7 @@ def walk(contract, before, length):
                 given.pop()
                 continue
             break
-        left = told["ok"]["outcomes"][-1]["contract"]
+        left = told["ok"][-1]["contract"]
     return given
 
 
@@ -252,6 +256,12 @@ def traces():
     return {"trace": ask}
 
 
+def gallery():
+    """Transactions of a contract of the gallery."""
+    contract = R.choice(GALLERY)
+    return {"trace": {"contract": contract, "transactions": walk(contract, state(), R.randrange(3, 7))}}
+
+
 def warned():
     """A run up to its first warning, or one that closes without any."""
     contract, before = steps_to(waiting(R.randrange(1, 4))), small_state(1, 0, 1)
@@ -260,7 +270,7 @@ def warned():
         told = reference.answered({"trace": {"contract": contract, "state": before, "transactions": given[:length]}}, [])
         if "refused" in told:
             break
-        if told["ok"]["outcomes"][-1]["warnings"]:
+        if told["ok"][-1]["warnings"]:
             return {"trace": {"contract": contract, "state": before, "transactions": given[:length]}}
     return None
 
@@ -359,7 +369,15 @@ def readings():
     return {"read": {of: changed(data, R.choice(objects), lambda part: {**one(*OTHERS), **part})}}
 
 
-MAKERS = {make.__name__: make for make in (evaluation, division, intervals, reductions, warnings, payments, inputs, bits, mixed, traces, warned,
+# The contracts of the gallery that have at most so many bytes.
+LARGEST, GALLERY = 3000, []
+TOP = os.path.join(os.path.dirname(os.path.abspath(__file__)), "..")
+for path in sorted(glob.glob(os.path.join(TOP, "crates", "rows_commands", "data", "gallery", "*", "contract.json"))):
+    if os.path.getsize(path) <= LARGEST:
+        with open(path, encoding="utf-8") as file:
+            GALLERY.append(json.load(file))
+
+MAKERS = {make.__name__: make for make in (evaluation, division, intervals, reductions, warnings, payments, inputs, bits, mixed, traces, gallery, warned,
     faults, round_trips, readings)}
 
 

@@ -18,6 +18,10 @@ START = {"accounts": [], "choices": [], "boundValues": [], "minTime": 0}
 READERS = {"contract": readings.contract, "state": readings.state, "transaction": readings.transaction, "input": readings.given}
 # What stands between the rules of two transactions.
 NEXT = "next transaction"
+# With what the transaction function refuses.
+REFUSALS = ("InvalidInterval", "IntervalInPast", "Ambiguous", "NoMatch", "Useless", "Leaves128")
+# The requests of the stream, in the order in which they are sought. Three of them are answered here.
+WORDS = ("run", "trace", "next", "table", "analyse", "play", "read", "bytes", "define", "forget")
 
 
 class Refusal(Exception):
@@ -26,6 +30,11 @@ class Refusal(Exception):
     def __init__(self, of, name, **more):
         super().__init__(of, name)
         self.told = {"of": of, "name": name, **more}
+
+
+def part_of(asked, key, where_absent=None):
+    """What stands at a key of a request; where there is none, what no text has, or what is given."""
+    return asked[key] if isinstance(asked, dict) and key in asked else where_absent
 
 
 def read(of, part, **more):
@@ -39,7 +48,7 @@ def computed(contract, state, transaction, taken, **more):
     try:
         return interpreter.finished(contract, state, transaction, taken)
     except interpreter.Refused as fault:
-        raise Refusal("semantics", str(fault), **more) from None
+        raise Refusal("transaction", str(fault), **more) from None
 
 
 def in_order(state):
@@ -50,27 +59,36 @@ def in_order(state):
 # ---- requests
 
 def run(asked, taken):
-    contract, state, transaction = (read(of, asked[of]) for of in ("contract", "state", "transaction"))
-    return interpreter.outcome_of(*computed(contract, state, transaction, taken))
+    contract = read("contract", part_of(asked, "contract"))
+    state = read("state", part_of(asked, "state", START))
+    transaction = read("transaction", part_of(asked, "transaction"))
+    return {"ok": interpreter.outcome_of(*computed(contract, state, transaction, taken))}
 
 
 def trace(asked, taken):
-    contract, state = read("contract", asked["contract"]), read("state", asked.get("state", START))
-    transactions = [read("transaction", each, number=number) for number, each in enumerate(asked["transactions"], 1)]
+    contract = read("contract", part_of(asked, "contract"))
+    state = read("state", part_of(asked, "state", START))
+    given = part_of(asked, "transactions", [])
+    transactions = [read("transaction", each, number=number) for number, each in enumerate(given if isinstance(given, list) else [given], 1)]
     outcomes = []
     for number, transaction in enumerate(transactions, 1):
         taken.append(NEXT)
-        ended, contract = computed(contract, state, transaction, taken, number=number)
+        try:
+            ended, contract = computed(contract, state, transaction, taken, number=number)
+        except Refusal as refusal:
+            return {"ok": outcomes, "refused": refusal.told}
         outcomes.append(interpreter.outcome_of(ended, contract))
         state = interpreter.state_json(ended, int)
-    return {"outcomes": outcomes}
+    return {"ok": outcomes}
 
 
 def written(asked, _):
     """The canonical JSON of what is read."""
-    of = next(of for of in READERS if of in asked)
+    of = next((of for of in READERS if isinstance(asked, dict) and of in asked), None)
+    if of is None:
+        raise Refusal("read", "NoForm")
     told = read(of, asked[of])
-    return in_order(told) if of == "state" else told
+    return {"ok": in_order(told) if of == "state" else told}
 
 
 REQUESTS = {"run": run, "trace": trace, "read": written}
@@ -78,11 +96,13 @@ REQUESTS = {"run": run, "trace": trace, "read": written}
 
 def answered(request, taken):
     """The answer of a request, without its id."""
-    word = next((word for word in REQUESTS if isinstance(request, dict) and isinstance(request.get(word), dict)), None)
     try:
+        if not isinstance(request, dict):
+            raise Refusal("line", "NoObject")
+        word = next((word for word in WORDS if word in request), None)
         if word is None:
-            raise Refusal("line", "NoForm")
-        return {"ok": REQUESTS[word](request[word], taken)}
+            raise Refusal("line", "NoRequest")
+        return REQUESTS[word](request[word], taken)
     except Refusal as refusal:
         return {"refused": refusal.told}
 

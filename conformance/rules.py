@@ -5,7 +5,7 @@ Usage    the scripts beside it import it; checks/suite.py looks whether each pag
 A rule has the subject to which it belongs, what it says, the page and some words of the page. The rules that checks/interpreter.py takes have
 the same names there.
 """
-SEMANTICS, FORMATS, DECISIONS = "docs/semantics.md", "docs/formats.md", "docs/DECISIONS.md"
+SEMANTICS, FORMATS, DECISIONS, PAGE = "docs/semantics.md", "docs/formats.md", "docs/DECISIONS.md", "docs/conformance.md"
 
 SUBJECTS = {
     "readings": "what each text stands for",
@@ -191,7 +191,11 @@ RULES = {
     # lines
     "NotJson": ("lines", "A line that is no JSON, no UTF-8 or nests too deep is refused, and the next one is read.", FORMATS, "| 1 | NotJson |"),
     "TooLong": ("lines", "A line of more than 4 MiB is refused, and the next one is read.", FORMATS, "| 2 | TooLong |"),
-    "id": ("lines", "An answer has the id of its request.", "docs/conformance.md", "the request's `id`, whatever JSON that is"),
+    "NoObject": ("lines", "A line that is no object is refused.", PAGE, "`NoObject` where it is no object"),
+    "NoRequest": ("lines", "An object without any of the requests as a key is refused.", PAGE, "`NoRequest` where it asks nothing"),
+    "left out": ("lines", "Without a state there are no entries and the time is 0, without transactions there are none; another part that lacks is NoForm.", PAGE,
+                 "Without `state` there are no entries, and the time is 0"),
+    "id": ("lines", "An answer has the id of its request.", PAGE, "the request's `id`, whatever JSON that is"),
 }
 
 # What a choice does in the profile `unbounded`: cases that rest on it are left out, compared without it, or kept.

@@ -8,6 +8,7 @@ Usage    run.py [OPTIONS] ENGINE..       as: run.py python3 conformance/engines/
          --seconds N                     how long an answer may take, 10 where nothing else is said
          --show N                        how many differing cases of a subject are named, 5 where nothing else is said
          --no-shrink                     shows the first one as it is
+         --ours "PROGRAM serve"          asks this program what is wanted of a case that was made smaller, in place of the interpreter
 Expect   a line for each subject, `N agree`, and status 0.
 Else     for each subject how many differ; the smallest one, made smaller while it differs, with its rule and where the rule stands, the choices of ours
          that it rests on, what was asked, wanted and answered; the names of the next ones; and status 1. An engine that gives no answer in time,
@@ -16,6 +17,7 @@ Else     for each subject how many differ; the smallest one, made smaller while 
 import argparse
 import json
 import queue
+import shlex
 import subprocess
 import sys
 import threading
@@ -27,6 +29,7 @@ import suite
 
 TRIES, TROUBLES = 1000, 5
 LONGEST_SHOWN = 2000
+LATE = "no answer"
 
 
 class Engine:
@@ -58,7 +61,7 @@ class Engine:
             came = self.lines.get(timeout=self.seconds)
         except queue.Empty:
             self.stop()
-            return f"no answer within {self.seconds} seconds"
+            return f"{LATE} within {self.seconds:g} seconds"
         if came is None:
             status, self.process = self.process.wait(), None
             return f"the engine ended with status {status}"
@@ -93,6 +96,10 @@ class Held:
         self.differ, self.order_alone, self.not_asked = [], 0, 0
 
 
+def is_late(came):
+    return isinstance(came, str) and came.startswith(LATE)
+
+
 def is_left_out(case, loosely):
     return loosely and any(rules.CHOICES[choice][3] == rules.LEFT_OUT for choice in case["choices"])
 
@@ -103,15 +110,14 @@ def agrees(wanted, came, given, loosely):
 
 def hold(engine, cases, loosely):
     held, troubles = Held(), 0
-    for number, case in enumerate(cases, 1):
+    for case in cases:
         if is_left_out(case, loosely):
             held.left_out += 1
             continue
         if troubles == TROUBLES:
             held.not_asked += 1
             continue
-        line, given = suite.line_of(case, number)
-        came = engine.ask(line)
+        given, came = case["id"], engine.ask(case["sent"])
         troubles += isinstance(came, str)
         if isinstance(came, dict) and "unable" in came:
             held.unable += 1
@@ -124,33 +130,38 @@ def hold(engine, cases, loosely):
     return held
 
 
-def smallest(engine, case, came, loosely):
-    """A case made smaller while it differs, each time with the reference's answer; with how many tries it took."""
-    seen = {}
+def rules_taken(line):
+    taken = []
+    reference.answer(line, taken)
+    return {str(rule).split(":")[0] for rule in taken}
+
+
+def smallest(engine, case, came, loosely, wanted_of):
+    """A case made smaller while it differs and takes its rule, each time with the answer that is wanted of it; with how many tries it took. Where the
+    engine gives no answer in time to some of these, no more are asked."""
+    seen, rule = {"late": 0}, {case["rule"]} & rules_taken(case["sent"])
 
     def differs(ask):
         line, given = suite.line_of({"ask": ask})
-        wanted = reference.answer(line)
-        if not is_of_sort(case["answer"], wanted):
+        wanted = wanted_of(line)
+        if seen["late"] == TROUBLES or not isinstance(wanted, dict) or suite.is_unread(case["answer"]) != suite.is_unread(wanted):
+            return False
+        if not rule <= rules_taken(line):
             return False
         told = engine.ask(line)
+        seen["late"] += is_late(told)
         is_another = not (isinstance(told, dict) and "unable" in told) and not agrees(wanted, told, given, loosely)
         if is_another:
             seen["last"] = (wanted, told)
         return is_another
 
-    if "ask" not in case or isinstance(came, str) and "seconds" in came:
+    if "ask" not in case or is_late(came):
         return case, came, 0
     ask, tries = shrink.shrunk(case["ask"], differs, TRIES)
-    wanted, told = seen.get("last", (case["answer"], came))
-    return {**case, "ask": ask, "answer": {key: part for key, part in wanted.items() if key != "id"}}, told, tries
-
-
-def is_of_sort(answer, wanted):
-    """Whether an answer is still one of the same sort: a text that was read is still read."""
-    if "ok" in wanted or "ok" in answer:
-        return "ok" in answer or wanted.get("refused", {}).get("of") not in reference.READERS
-    return (wanted["refused"]["of"] in reference.READERS) == (answer["refused"]["of"] in reference.READERS)
+    if "last" not in seen:
+        return case, came, tries
+    wanted, told = seen["last"]
+    return {**case, "sent": suite.line_of({"ask": ask})[0], "answer": {key: part for key, part in wanted.items() if key != "id"}}, told, tries
 
 
 # ---- what is told
@@ -166,21 +177,21 @@ def show(case, came, tries):
     for choice in case["choices"]:
         words, page, quote, _ = rules.CHOICES[choice]
         print(f"    rests   on a choice of ours: {words} ({page}: \"{quote}\")")
-    print("    asked   " + short(suite.line_of(case)[0].decode()))
+    print("    asked   " + short(case["sent"].decode(errors="replace")))
     print("    wanted  " + short(suite.compact(case["answer"])))
     print("    came    " + short(came if isinstance(came, str) else suite.compact(came)))
 
 
-def tell(engine, subject, held, options):
+def tell(engine, subject, held, options, wanted_of):
     words = [f"{held.agree:5} agree"] + [f"{count} {word}" for count, word in (
         (len(held.differ), "differ"), (held.order_alone, "of them in an order or in texts of digits alone"),
             (held.unable, "that the engine has no request for"),
         (held.left_out, "left out"), (held.nameless, "refusals without a name"), (held.not_asked, "not asked any more")) if count]
     print(f"{subject:12} " + ", ".join(words))
-    differ = sorted(held.differ, key=lambda pair: len(suite.line_of(pair[0])[0]))
+    differ = sorted(held.differ, key=lambda pair: len(pair[0]["sent"]))
     if differ:
         case, came = differ[0]
-        show(*((case, came, 0) if options.no_shrink else smallest(engine, case, came, options.profile is not None)))
+        show(*((case, came, 0) if options.no_shrink else smallest(engine, case, came, options.profile is not None, wanted_of)))
     for case, _ in differ[1:options.show]:
         print(f"  {case['name']} ({case['rule']})")
     if len(differ) > max(options.show, 1):
@@ -194,16 +205,20 @@ def main():
     options.add_argument("--seconds", type=float, default=10)
     options.add_argument("--show", type=int, default=5)
     options.add_argument("--no-shrink", action="store_true")
+    options.add_argument("--ours")
     options.add_argument("engine", nargs=argparse.REMAINDER)
     options = options.parse_args()
     if not options.engine:
         sys.exit(__doc__)
     engine, totals = Engine(options.engine, options.seconds), [0, 0, 0]
+    ours = Engine(shlex.split(options.ours), options.seconds) if options.ours else None
     for subject in options.subject or rules.SUBJECTS:
         held = hold(engine, suite.load([subject]), options.profile is not None)
-        tell(engine, subject, held, options)
+        tell(engine, subject, held, options, ours.ask if ours else reference.answer)
         totals = [total + more for total, more in zip(totals, (held.agree, len(held.differ), held.unable + held.left_out + held.not_asked))]
     engine.stop()
+    if ours:
+        ours.stop()
     print("{} agree, {} differ, {} not asked or not to be had".format(*totals))
     return int(totals[1] > 0)
 

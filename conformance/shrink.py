@@ -7,16 +7,13 @@ import json
 # The parts of each sort that can be made smaller, by their keys: a sort, or a list of one.
 SORTS = {
     "contract": {"pay": "value", "if": "observation", "then": "contract", "else": "contract", "when": ["case"], "timeout": "number",
-        "timeout_continuation": "contract",
-                 "be": "value", "assert": "observation"},
+                 "timeout_continuation": "contract", "be": "value", "assert": "observation"},
     "case": {"case": "action", "then": "contract"},
     "action": {"deposits": "value", "choose_between": ["bound"], "notify_if": "observation"},
     "value": {"negate": "value", "add": "value", "and": "value", "value": "value", "minus": "value", "multiply": "value", "times": "value",
-        "divide": "value", "by": "value",
-              "if": "observation", "then": "value", "else": "value"},
-    "observation": {"both": "observation", "and": "observation", "either": "observation", "or": "observation", "not": "observation", "value": "value",
-        "ge_than": "value",
-                    "gt": "value", "lt": "value", "le_than": "value", "equal_to": "value"},
+              "divide": "value", "by": "value", "if": "observation", "then": "value", "else": "value"},
+    "observation": {"both": "observation", "and": "observation", "either": "observation", "or": "observation", "not": "observation",
+                    "value": "value", "ge_than": "value", "gt": "value", "lt": "value", "le_than": "value", "equal_to": "value"},
     "bound": {"from": "number", "to": "number"},
     "state": {"accounts": ["row"], "choices": ["row"], "boundValues": ["row"], "minTime": "number"},
     "row": {1: "number"},
@@ -30,10 +27,9 @@ SORTS = {
 LEAST = {"contract": ["close"], "value": [0, 1], "observation": [True, False]}
 
 
-def is_smaller(less, request):
+def weight(request):
     """Shorter is smaller, and of equal length what has smaller numbers."""
-    lengths = len(json.dumps(less)), len(json.dumps(request))
-    return lengths[0] < lengths[1] or lengths[0] == lengths[1] and sum(map(abs, numbers(less))) < sum(map(abs, numbers(request)))
+    return len(json.dumps(request)), sum(map(abs, numbers(request)))
 
 
 def numbers(data):
@@ -61,12 +57,20 @@ def smaller(sort, data):
     yield from (least for least in LEAST.get(sort, []) if least != data)
     yield from (part for _, inner, part in parts(sort, data) if inner == sort)
     if sort in ("number", "value") and isinstance(data, int) and not isinstance(data, bool):
-        yield from {0, abs(data) // 2 * (1 if data > 0 else -1), data - (1 if data > 0 else -1)} - {data}
+        yield from nearer_to_0(data)
     for key, inner, part in parts(sort, data):
         for less in smaller(inner, part):
             copy = dict(data) if isinstance(data, dict) else list(data)
             copy[key] = less
             yield copy
+
+
+def nearer_to_0(number):
+    """Whole numbers between a number and 0, in halves of the way: 0 first, and last the one beside the number."""
+    step, sign = abs(number), 1 if number > 0 else -1
+    while step:
+        yield number - sign * step
+        step //= 2
 
 
 def smaller_lists(sort, data):
@@ -80,17 +84,20 @@ def smaller_lists(sort, data):
 
 
 def shrunk(request, differs, most):
-    """A request that is as small as can be found in so many tries, and still differs; and the number of tries."""
-    tries, goes_on = 0, True
-    while goes_on:
-        goes_on = False
-        for less in smaller("request", request):
-            if not is_smaller(less, request):
+    """A request that is as small as can be found in so many tries, and still differs; and the number of tries. The search goes on at the place where it
+    found a smaller one, and begins anew until a whole round finds none."""
+    tries, place, has_found, least = 0, 0, False, weight(request)
+    while True:
+        for at, less in enumerate(smaller("request", request)):
+            if at < place or weight(less) >= least:
                 continue
             if tries == most:
                 return request, tries
             tries += 1
             if differs(less):
-                request, goes_on = less, True
+                request, place, has_found, least = less, at, True, weight(less)
                 break
-    return request, tries
+        else:
+            if not has_found:
+                return request, tries
+            place, has_found = 0, False

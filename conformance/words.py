@@ -196,7 +196,7 @@ def ok(contract=CLOSE, payments=(), accounts=(), choices=(), bound=(), time=0, w
     return {"ok": {"contract": contract, "payments": list(payments), "state": rows, "warnings": list(warnings)}}
 
 
-def refused(name, of="semantics", **more):
+def refused(name, of="transaction", **more):
     return {"refused": {"of": of, "name": name, **more}}
 
 
@@ -216,11 +216,13 @@ def case(subject, name, rule, ask, answer, choice=None):
 def text_case(subject, name, rule, of, text, told, choice=None):
     """A case that reads a text as it stands, with what it is told: a fault's name, or the data that are written back under `ok`."""
     answer = told if isinstance(told, dict) and set(told) == {"ok"} else refused(told, of)
-    return {**line_case(subject, name, rule, '{"id":0,"read":{"%s":%s}}' % (of, text), answer, choice), "id": 0}
+    return {**without_ask(case(subject, name, rule, None, answer, choice)), "text": '"read":{"%s":%s}' % (of, text)}
 
 
 def line_case(subject, name, rule, line, answer, choice=None):
     """A case that sends a line as it stands; an answer without an id."""
-    told = case(subject, name, rule, None, answer, choice)
-    del told["ask"]
-    return {**told, "line": line, "id": None}
+    return {**without_ask(case(subject, name, rule, None, answer, choice)), "line": line, "id": None}
+
+
+def without_ask(made):
+    return {key: part for key, part in made.items() if key != "ask"}

@@ -113,13 +113,13 @@ CASES += [
 
 # so many cases that the line is written by its pieces
 FALSE = '{"case":{"notify_if":false},"then":"close"},'
-MANY = 20_000
+MANY = 5_000
 BEGIN, AFTER = '{"id":0,"run":{"contract":{"when":[', '],"timeout":100,"timeout_continuation":"close"},"state":{"accounts":[],"choices":[],"boundValues":[],"minTime":0},"transaction":'
 ONE = '{"tx_interval":{"from":0,"to":10},"tx_inputs":["input_notify"]}}}'
-for name, last, answer in (("the last of twenty thousand notifies", '{"case":{"notify_if":true},"then":{"let":"x","be":1,"then":"close"}}',
+for name, last, answer in (("the last of five thousand notifies", '{"case":{"notify_if":true},"then":{"let":"x","be":1,"then":"close"}}',
     ok(bound=[("x", 1)])),
-                           ("twenty thousand notifies that are false", '{"case":{"notify_if":false},"then":"close"}', refused("NoMatch")),
-                           ("a number that leaves 128 bits in the last of twenty thousand notifies",
+                           ("five thousand notifies that are false", '{"case":{"notify_if":false},"then":"close"}', refused("NoMatch")),
+                           ("a number that leaves 128 bits in the last of five thousand notifies",
                             '{"case":{"notify_if":{"value":{"multiply":18446744073709551615,"times":18446744073709551615},"gt":0}},"then":"close"}',
                                 refused("Leaves128"))):
     CASES.append({**line_case("long", name, "long contract", [BEGIN, [MANY, FALSE], last, AFTER, ONE], answer, "128 bits" if "128" in name else None),

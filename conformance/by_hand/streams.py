@@ -13,7 +13,12 @@ def line(name, rule, text, answer, given=None, choice=None):
     return {**line_case("lines", name, rule, text, answer, choice), "id": given}
 
 
-NOT_JSON, TOO_LONG = refused("NotJson", "line"), refused("TooLong", "line")
+def asks(name, rule, ask, answer):
+    """A request by its text behind the id."""
+    return {**line_case("lines", name, rule, '{"id":0,%s}' % ask, answer), "id": 0}
+
+
+NOT_JSON, TOO_LONG, NO_OBJECT, NO_REQUEST = (refused(name, "line") for name in ("NotJson", "TooLong", "NoObject", "NoRequest"))
 LIMIT = 4 * 1_048_576
 DEEP = '{"timeout":1,"when":[],"timeout_continuation":'
 CASES = [line(name, "NotJson", text, NOT_JSON) for name, text in (
@@ -29,7 +34,38 @@ CASES = [line(name, "NotJson", text, NOT_JSON) for name, text in (
         ("half an escape", '{"id":1,"read":{"contract":"\\u00"}}'),
     ("an escape that is none", '{"id":1,"read":{"contract":"\\x63lose"}}'), ("half of a pair of escapes", '{"id":1,"read":{"contract":"\\ud83d"}}'),
     ("a tab inside a text", '{"id":1,"read":{"contract":"clo\tse"}}'), ("a comment", '{"id":1,%s} // close' % READ),
-        ("True in capitals", '{"id":1,"read":{"contract":{"assert":True,"then":"close"}}}'))]
+        ("True in capitals", '{"id":1,"read":{"contract":{"assert":True,"then":"close"}}}'),
+    ("a byte that is no letter", ['{"id":1,"read":{"contract":"', 255, '"}}']),
+    ("a letter of two bytes, the second left out", ['{"id":"', 195, '",%s}' % READ]),
+    ("a letter of three bytes, the last left out", ['{"id":"', 226, 130, '",%s}' % READ]),
+    ("half of a pair as a letter", ['{"id":"', 237, 160, 128, '",%s}' % READ]),
+    ("a letter in more bytes than it needs", ['{"id":"', 192, 128, '",%s}' % READ]), ("a mark of bytes before it", [239, 187, 191, CLOSES]))]
+CASES += [line(f"no object: {text}", "NoObject", text, NO_OBJECT) for text in
+    ("7", "-1", "0.5", '"close"', '""', "[]", "[%s]" % CLOSES, "null", "true", "false", "[[]]", " 7 ", '"{}"')]
+CASES += [line(f"no request: {text}", "NoRequest", text, NO_REQUEST, given) for text, given in (
+    ("{}", None), ('{"id":7}', 7), ('{"id":"run"}', "run"), ('{"id":7,"Run":{}}', 7), ('{"id":7,"ran":{}}', 7), ('{"id":7,"run ":{}}', 7),
+    ('{"id":7,"":{}}', 7), ('{"id":7,"contract":"close"}', 7), ('{"id":7,"note":%s}' % CLOSES, 7), ('{"id":7,"id":8}', 8),
+    ('{"reads":{"contract":"close"}}', None), ('{"id":{"run":{}}}', {"run": {}}))]
+NO_STATE = '{"tx_interval":{"from":5,"to":9},"tx_inputs":["input_notify"]}'
+TAKES = '{"when":[{"case":{"notify_if":true},"then":"close"}],"timeout":100,"timeout_continuation":"close"}'
+CASES += [asks(name, "left out", text, answer) for name, text, answer in (
+    ("a run without a state", '"run":{"contract":%s,"transaction":%s}' % (TAKES, NO_STATE), ok(time=5)),
+    ("a trace without a state", '"trace":{"contract":%s,"transactions":[%s]}' % (TAKES, NO_STATE), {"ok": [ok(time=5)["ok"]]}),
+    ("a trace without transactions", '"trace":{"contract":"close"}', {"ok": []}),
+    ("a trace without transactions from a state", '"trace":{"contract":"close","state":{"accounts":[],"choices":[],"boundValues":[],"minTime":3}}', {"ok": []}),
+    ("a trace of transactions of which there are none", '"trace":{"contract":"close","transactions":[]}', {"ok": []}),
+    ("a run without a contract", '"run":{"transaction":%s}' % NO_STATE, refused("NoForm", "contract")),
+    ("a run without a transaction", '"run":{"contract":"close"}', refused("NoForm")),
+    ("a run of nothing", '"run":{}', refused("NoForm", "contract")),
+    ("a trace of nothing", '"trace":{}', refused("NoForm", "contract")),
+    ("a run that is no object", '"run":7', refused("NoForm", "contract")),
+    ("a trace that is no object", '"trace":[]', refused("NoForm", "contract")),
+    ("a state that is null", '"run":{"contract":%s,"state":null,"transaction":%s}' % (TAKES, NO_STATE), refused("NoForm", "state")),
+    ("nothing to read", '"read":{}', refused("NoForm", "read")),
+    ("something else to read", '"read":{"value":1}', refused("NoForm", "read")),
+    ("two things to read, of which the contract is read", '"read":{"input":7,"contract":"close"}', {"ok": "close"}),
+    ("a run and something to read", '"read":{"contract":7},"run":{"contract":%s,"transaction":%s}' % (TAKES, NO_STATE), ok(time=5)),
+    ("a trace and a run", '"trace":{},"run":{"contract":%s,"transaction":%s}' % (TAKES, NO_STATE), ok(time=5)))]
 CASES += [
     line("130 levels", "NotJson", ['{"id":0,"read":{"contract":', [128, DEEP], '"close"', [128, "}"], "}}"], NOT_JSON, choice="limits"),
     line("130 levels of lists in a key that nobody reads", "NotJson", ['{"id":0,"note":', [129, "["], [129, "]"], ",%s}" % READ], NOT_JSON,
@@ -58,9 +94,10 @@ CASES += [line("no id", "id", CLOSES, {"ok": "close"}), line("an id behind what 
 # ---- runs of many transactions
 
 def trace(name, rule, contract, given, told, before=None, choice=None, subject="traces"):
-    """A trace, and its outcomes or its refusal."""
+    """A trace, and its outcomes; its refusal, where a text isn't read; or both, where a transaction is refused."""
     ask = {"contract": contract, "transactions": given, **({"state": before} if before else {})}
-    answer = told if isinstance(told, dict) else {"ok": {"outcomes": [outcome["ok"] for outcome in told]}}
+    outcomes, refusal = told if isinstance(told, tuple) else (told, {})
+    answer = told if isinstance(told, dict) else {"ok": [outcome["ok"] for outcome in outcomes], **refusal}
     return case(subject, name, rule, {"trace": ask}, answer, choice)
 
 
@@ -91,8 +128,8 @@ CASES += [
         [ok(SECOND, time=5), ok(bound=[("x", 1)], time=5)]),
     trace("from a state", "goes on", SECOND, [at(NOTIFY)], [ok(payments=[refund(A, 4)], choices=[made("n", A, 1)], bound=[("x", 1)], time=3)],
         state([account(A, 4)], [made("n", A, 1)], time=3)),
-    trace("a number that JSON doesn't have goes on", "goes on", let("x", multiply(4, 2**63), when([(notify(), let("y", subtract(use("x"), 2**64 - 1)))])),
-        [at(), at(NOTIFY)],
+    trace("a number that JSON doesn't have goes on", "goes on",
+        let("x", multiply(4, 2**63), when([(notify(), let("y", subtract(use("x"), 2**64 - 1)))])), [at(), at(NOTIFY)],
           [ok(when([(notify(), let("y", subtract(use("x"), 2**64 - 1)))]), bound=[("x", 2**65)]), ok(bound=[("x", 2**65), ("y", 2**64 + 1)])],
               choice=["texts of digits", "orders"]),
     trace("an account that grows beyond what JSON has", "goes on", when([(deposit(2**64 - 1, B, A), when([(deposit(1, B, A), CLOSE)]))]),
@@ -101,18 +138,23 @@ CASES += [
     trace("an outcome's warnings are its own", "goes on", ensure(False, SECOND), [at(), at(NOTIFY)],
         [ok(SECOND, warnings=[FAILS]), ok(bound=[("x", 1)])]),
     # the first refusal ends it
-    trace("the first is refused", "stops", SECOND, [at()], refused("Useless", number=1)),
-    trace("the second matches nothing", "stops", FIRST, [at(NOTIFY), at(deposits(5, B, A))], refused("NoMatch", number=2)),
-    trace("the second is useless", "stops", FIRST, [at(NOTIFY), at()], refused("Useless", number=2)),
-    trace("the second is in the past", "stops", FIRST, [at(NOTIFY, start=5), at(NOTIFY, end=4)], refused("IntervalInPast", number=2)),
-    trace("the second ends before it starts", "stops", FIRST, [at(NOTIFY), at(NOTIFY, start=9, end=8)], refused("InvalidInterval", number=2)),
-    trace("the second is ambiguous", "stops", FIRST, [at(NOTIFY), at(NOTIFY, start=50, end=150)], refused("Ambiguous", number=2)),
-    trace("the third finds it closed", "stops", FIRST, [at(NOTIFY), at(NOTIFY), at(NOTIFY)], refused("NoMatch", number=3)),
-    trace("the third is useless", "stops", FIRST, [at(NOTIFY), at(NOTIFY), at()], refused("Useless", number=3)),
-    trace("of three the second is refused", "stops", FIRST, [at(NOTIFY), at(), at(NOTIFY)], refused("Useless", number=2)),
-    trace("a close that has paid is useless then", "stops", CLOSE, [at(), at()], refused("Useless", number=2), state([account(A, 4)])),
+    trace("the first is refused", "stops", SECOND, [at()], ([], refused("Useless", number=1))),
+    trace("the second matches nothing", "stops", FIRST, [at(NOTIFY), at(deposits(5, B, A))], ([ok(SECOND)], refused("NoMatch", number=2))),
+    trace("the second is useless", "stops", FIRST, [at(NOTIFY), at()], ([ok(SECOND)], refused("Useless", number=2))),
+    trace("the second is in the past", "stops", FIRST, [at(NOTIFY, start=5), at(NOTIFY, end=4)], ([ok(SECOND, time=5)], refused("IntervalInPast", number=2))),
+    trace("the second ends before it starts", "stops", FIRST, [at(NOTIFY), at(NOTIFY, start=9, end=8)], ([ok(SECOND)], refused("InvalidInterval", number=2))),
+    trace("the second is ambiguous", "stops", FIRST, [at(NOTIFY), at(NOTIFY, start=50, end=150)], ([ok(SECOND)], refused("Ambiguous", number=2))),
+    trace("the third finds it closed", "stops", FIRST, [at(NOTIFY), at(NOTIFY), at(NOTIFY)],
+        ([ok(SECOND), ok(bound=[("x", 1)])], refused("NoMatch", number=3))),
+    trace("the third is useless", "stops", FIRST, [at(NOTIFY), at(NOTIFY), at()],
+        ([ok(SECOND), ok(bound=[("x", 1)])], refused("Useless", number=3))),
+    trace("of three the second is refused", "stops", FIRST, [at(NOTIFY), at(), at(NOTIFY)], ([ok(SECOND)], refused("Useless", number=2))),
+    trace("a close that has paid is useless then", "stops", CLOSE, [at(), at()],
+        ([ok(payments=[refund(A, 4)])], refused("Useless", number=2)), state([account(A, 4)])),
     trace("a number that leaves 128 bits later", "stops", let("x", multiply(2**63, 2**63), when([(notify(), let("y", multiply(use("x"), 2)))])),
-        [at(), at(NOTIFY)], refused("Leaves128", number=2), choice="128 bits"),
+        [at(), at(NOTIFY)],
+        ([ok(when([(notify(), let("y", multiply(use("x"), 2)))]), bound=[("x", 2**126)])], refused("Leaves128", number=2)),
+        choice=["128 bits", "texts of digits"]),
     # all are read first
     trace("the first isn't read", "all are read", FIRST, [{}], refused("NoForm", "transaction", number=1), choice="states"),
     trace("the second isn't read", "all are read", FIRST, [at(NOTIFY), at("notify")], refused("NoForm", "transaction", number=2), choice="states"),

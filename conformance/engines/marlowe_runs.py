@@ -13,7 +13,6 @@ import subprocess
 import sys
 import tempfile
 
-PROGRAM = os.path.abspath(sys.argv[1])
 LONGEST = 4 * 1_048_576 + 1
 FAULTS = ("InvalidInterval", "IntervalInPast", "Ambiguous", "NoMatch", "Useless", "Leaves128")
 WAITS = '{"assert":true,"then":{"when":[%s],"timeout":9223372036854775807,"timeout_continuation":"close"}}'
@@ -25,31 +24,31 @@ INSIDE = {"contract": ("contract", WAITS % '{"case":{"notify_if":false},"then":%
 
 
 def called(folder, command, texts):
-    """What the program prints, line by line, or its refusal: `refused contract NoForm`, `refused transaction 2 NoMatch`, `refused Useless`."""
+    """What the program prints, line by line, and its refusal: `refused contract NoForm`, `refused transaction 2 NoMatch`, `refused Useless`."""
     for name, text in texts.items():
         with open(os.path.join(folder, name), "w", encoding="utf-8") as file:
             file.write(text)
-    done = subprocess.run([PROGRAM, *command.split()], cwd=folder, capture_output=True, encoding="utf-8")
+    done = subprocess.run([os.path.abspath(sys.argv[1]), *command.split()], cwd=folder, capture_output=True, encoding="utf-8")
+    told = {"ok": [json.loads(line) for line in done.stdout.splitlines()]}
     if done.returncode == 0:
-        return {"ok": [json.loads(line) for line in done.stdout.splitlines()]}
+        return told
     _, *words, name = done.stderr.split()
-    number = {"number": int(words[1])} if words[1:] else {}
-    return {"refused": {"of": words[0] if words and name not in FAULTS else "semantics", "name": name, **number}}
+    refusal = {"of": words[0] if words else "transaction", "name": name, **({"number": int(words[1])} if words[1:] else {})}
+    return {**(told if words[1:] and name in FAULTS else {}), "refused": refusal}
 
 
 def answered(folder, request):
     word = next(word for word in ("run", "trace", "read") if word in request)
     texts = {name: json.dumps(part, ensure_ascii=False) for name, part in request[word].items()}
     if word == "trace":
-        came = called(folder, "trace contract transactions" + " --state state" * ("state" in texts), texts)
-        return came if "refused" in came else {"ok": {"outcomes": came["ok"]}}
+        return called(folder, "trace contract transactions" + " --state state" * ("state" in texts), texts)
     if word == "run":
-        came = called(folder, "run contract state transaction", texts)
+        came = called(folder, "run contract state transaction", {"state": PARTS["state"], **texts})
         return came if "refused" in came else {"ok": came["ok"][0]}
     (of, text), = texts.items()
     name, inside = INSIDE[of]
     came = called(folder, "run contract state transaction", {**PARTS, name: inside.replace("%s", text)})
-    if "refused" in came and came["refused"]["of"] != "semantics":
+    if "refused" in came and came["refused"]["name"] not in FAULTS:
         return {"refused": {**came["refused"], "of": of}}
     if "refused" in came or name == "transaction":
         return {"unable": "read"}
@@ -58,9 +57,9 @@ def answered(folder, request):
 
 def main():
     with tempfile.TemporaryDirectory() as folder:
-        for line in sys.stdin:
+        for line in sys.stdin.buffer:
             try:
-                request = json.loads(line, parse_int=lambda digits: float(digits) if digits == "-0" else int(digits))
+                request = json.loads(line.decode(), parse_int=lambda digits: float(digits) if digits == "-0" else int(digits))
                 told = {"id": request["id"], **answered(folder, request)}
                 if len(line) > LONGEST or len(request) > 2 or told.get("refused", {}).get("name") in ("NotJson", "TooLong"):
                     raise ValueError("the line is at fault, or may be")
@@ -69,4 +68,5 @@ def main():
             print(json.dumps(told, ensure_ascii=False), flush=True)
 
 
-main()
+if __name__ == "__main__":
+    main()
