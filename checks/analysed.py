@@ -19,6 +19,8 @@ warn. The others are those of rows_commands/data/analyses with a few numbers, pa
 - none starts at a part that is told as never reached, goes through it or stops there; such parts stand in order, none below another;
 - in each what a party was paid of a token is never above its `most`, 0 where it has no line, and no less than its `least` once all is closed;
 - alarms stand in the order of the contract, none twice, and no `least` is told where a transaction at the last timeout doesn't close the contract.
+- for people, of alarms of one kind at equal parts the first with a run is told, and how many others there are;
+- each run that is told with a bound is accepted, by interpreter.py, and comes to that very bound; of a least and of a loss it closes the contract;
 - from the time on that is told, after each accepted transaction of a run, one without inputs takes all out, by interpreter.py.
 A random run takes choices at the ends of their bounds and elsewhere, intervals about timeouts, deposits as asked, and now and then others.
 """
@@ -549,6 +551,72 @@ def replay(program, contract, state, alarm):
         raise Difference(f"the run to {alarm['kind']} has no transaction")
 
 
+def part_at(contract, place):
+    """What stands at an alarm's place: a contract, or of an action its case."""
+    at = contract
+    for key in place[:-1]:
+        at = at if key == "case" else at[key]
+    return at
+
+
+def told_once(program, contract, state, told, count):
+    """Compares the lines of alarms for people with the list for tools: of one kind at equal parts the first with a run, and how many others."""
+    alike = collections.defaultdict(list)
+    for alarm in told["alarms"]:
+        alike[alarm["kind"], json.dumps(part_at(contract, alarm["place"]), sort_keys=True)].append(alarm)
+    heads = {id(next((it for it in group if it["run"] is not None), group[0])): len(group) - 1 for group in alike.values()}
+    lines = []
+    for alarm in told["alarms"]:
+        if id(alarm) in heads:
+            others = heads[id(alarm)]
+            place = "".join(f"[{key}]" if isinstance(key, int) else f".{key}" for key in alarm["place"])
+            lines.append(f"{alarm['kind']} at {place}" + (", not known" if alarm["run"] is None else ", by this run:"))
+            lines += [json.dumps(tx, separators=(",", ":"), ensure_ascii=False) for tx in alarm["run"] or []]
+            lines += [f"and at {others} more place{'s' * (others > 1)}"] if others else []
+            count["alarms that are told with another"] += others
+    out = program.ask("analyse", contract, state)[1].splitlines()
+    if out[:len(lines)] != (lines or out[:0]) or not lines and out[0] != "never warns, stays within 128 bits":
+        raise Difference(f"the lines of alarms aren't {lines}, but {out[:len(lines)]}")
+
+
+def sums(contract, state, run):
+    """What each party is paid and brings by a run, and whether it leaves nothing in the contract, by interpreter.py."""
+    paid, brought = collections.Counter(), collections.Counter()
+    for tx in run:
+        try:
+            it = interpreter.outcome(contract, state, tx)
+        except interpreter.Refused as fault:
+            raise Difference(f"a run that reaches a bound is refused: {fault}", run)
+        for payment in it["payments"]:
+            if "party" in payment["to"]:
+                paid[party(payment["to"]["party"]), token(payment["token"])] += whole(payment["amount"])
+        for given in tx["tx_inputs"]:
+            if has(given, "that_deposits"):
+                brought[party(given["input_from_party"]), token(given["of_token"])] += max(0, given["that_deposits"])
+        contract, state = it["contract"], it["state"]
+    return paid, brought, contract == "close" and not state["accounts"]
+
+
+def reached(contract, state, told, count):
+    """Plays each run that is told with a bound."""
+    for it in told["ranges"]:
+        for end in ("least", "most"):
+            count[f"bounds, {end}"] += bool(it[end])
+            if it[f"{end}_run"] is not None:
+                count[f"bounds, {end}, by a run"] += 1
+                paid, _, spent = sums(contract, state, it[f"{end}_run"])
+                if paid[party(it["party"]), token(it["token"])] != whole(it[end]) or end == "least" and not spent or not whole(it[end]):
+                    raise Difference(f"the run to the {end} {it[end]} doesn't come to it", it[f"{end}_run"])
+    for it in told["down"] or []:
+        count["bounds, down"] += bool(it["most"])
+        if it["run"] is not None:
+            count["bounds, down, by a run"] += 1
+            paid, brought, spent = sums(contract, state, it["run"])
+            who = party(it["party"]), token(it["token"])
+            if brought[who] - paid[who] != whole(it["most"]) or not spent or not whole(it["most"]):
+                raise Difference(f"the run to a loss of {it['most']} doesn't come to it", it["run"])
+
+
 def play(program, chance, contract, state, told, count):
     """Plays a random run, and looks whether all that comes was said."""
     kinds, alarms, at = {it["kind"] for it in told["alarms"]}, {(it["kind"], tuple(it["place"])) for it in told["alarms"]}, []
@@ -637,6 +705,9 @@ def work(arguments):
                     count[f"alarm of {alarm['kind']}, {'not known' if alarm['run'] is None else 'by a run'}"] += 1
                     if alarm["run"] is not None:
                         replay(program, contract, state, alarm)
+                reached(contract, state, told, count)
+                if number % 8 == 0:
+                    told_once(program, contract, state, told, count)
                 for _ in range(given.runs):
                     play(program, chance, contract, state, told, count)
                     count["runs"] += 1

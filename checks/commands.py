@@ -9,7 +9,9 @@ Usage    commands.py [PROGRAM]               compares all files of command lines
 Expect   `FILE ok N rows` for each file: both streams and the status are as written.
 Else     the first row that differs, with what is written and what comes here, and status 1.
 """
+import json
 import os
+import re
 import shutil
 import subprocess
 import sys
@@ -38,6 +40,8 @@ ROWS = {
 ANALYSES = {"analyse": "", "alarms": "", "json": " --json"}
 # How a line begins that tells what a party is paid.
 OF_RANGE = ('{"address"', '{"role_token"')
+# And one that tells a transaction of a run.
+OF_RUN = '{"tx_inputs"'
 
 
 class Folder(rows.Given):
@@ -84,9 +88,11 @@ class Folder(rows.Given):
 
 def part_of(word, count, output):
     """The lines of standard output that a row prints."""
-    lines = output.removesuffix("\n").split("\n")
-    lines = lines[-count:] if word == "last" else [line for line in lines if word != "alarms" or not line.startswith(OF_RANGE)]
-    return "\n".join(lines)
+    lines, kept, is_of_bound = output.removesuffix("\n").split("\n"), [], False
+    for line in lines:
+        is_of_bound = word == "alarms" and (line.startswith(OF_RANGE) or is_of_bound and line.startswith(OF_RUN))
+        kept += [] if is_of_bound else [line]
+    return "\n".join(kept[-count:] if word == "last" else kept)
 
 
 def answer(folder, line, streams):
@@ -156,6 +162,30 @@ def play_apart(text):
     return (output + refusal).removesuffix("\n")
 
 
+# A contract that is given as a file, in a scenario of the rows.
+FILE = re.compile(rb'\{\s*"file"\s*:\s*"([^"]*)"\s*\}')
+
+
+class NotJoined(Exception):
+    """Why a scenario has no text with its files: a line on standard error, and a status."""
+
+
+def with_files(folder, name):
+    """The text of a scenario, with the text of each file in the place of what names it."""
+    text, place = folder.read(name), os.path.dirname(name)
+    files = {path: os.path.join(place, path.decode()) for path in FILE.findall(text)}
+    for path in files.values():
+        if not os.path.exists(os.path.join(folder.path, path)):
+            raise NotJoined(f"unreadable {path}\n", 2)
+    for each in json.loads(text)["contracts"] if files else []:
+        if FILE.fullmatch(json.dumps(each["contract"]).encode()):
+            try:
+                readings.contract(readings.parsed(folder.read(os.path.join(place, each["contract"]["file"]))))
+            except readings.Fault as fault:
+                raise NotJoined(f"refused contract {each['name']} {fault}\n", 1) from None
+    return FILE.sub(lambda found: folder.read(files[found[1]]).replace(b"\n", b" "), text)
+
+
 def explained_apart(text):
     output, refusal, _ = plays.wanted(text, True)
     return (output + refusal).removesuffix("\n")
@@ -167,14 +197,17 @@ APART = {"run": (3, run_apart), "table": (1, table_apart), "play": (1, play_apar
 
 def apart(folder, line):
     """What Python says that the program prints, or None for a line of which it says nothing: one that is at fault, or asks for help or for an analysis."""
-    command, *names = [word for word in line.split() if word != "--one"]
+    command, *names = [word for word in line.split() if word not in ("--one", "--files")]
+    of_files = "--files" in line.split()
     if command == "play" and "--explain" in names:
         command, names = "play --explain", [name for name in names if name != "--explain"]
     count, answered = APART.get(command, (None, None))
     if len(names) != count or any(name.startswith("-") for name in names):
         return None
     try:
-        texts = [folder.read(name) for name in names]
+        texts = [with_files(folder, name) if of_files else folder.read(name) for name in names]
+    except NotJoined as told:
+        return None if "--explain" in line.split() else ("", *told.args)
     except OSError:
         return None
     try:

@@ -2,11 +2,11 @@
 """Whether the folders of the gallery hold together, crates/rows_commands/data/gallery, and the pictures of the tutorial.
 
 Usage    gallery.py           compares
-         gallery.py --write   puts each folder's contract.json into its scenarios, and draws the pictures; it needs Graphviz
+         gallery.py --write   draws the pictures; it needs Graphviz
 Needs    nothing built: it takes what is printed from the rows, which the gate runs.
-Expect   `N folders hold together`: each scenario's first contract is that of its folder, rows.txt has the contract's table and plays each scenario, each of these has
+Expect   `N folders hold together`: each scenario's first contract is the file contract.json, rows.txt has the contract's table and plays each scenario, each of these has
          its picture, and a page names each file. The picture of a play is the one that tools/timeline.py draws, to the byte; that of a contract, which
-         Graphviz lays out, has the texts and as many boxes and arrows as tools/draw.py has. rows.txt has what `analyse` says of the contract, which never
+         Graphviz lays out, has the texts and as many boxes and arrows as tools/draw.py has. rows.txt has what `analyse` says of the contract, a run for each bound above 0 too, which never
          warns, and of the broken one, with a run to each alarm; the page has a row for each party's share, and names each kind of alarm.
 Else     a line for each fault, and status 1."""
 import html
@@ -25,7 +25,11 @@ import timeline
 DATA = os.path.join(TOP, "crates", "rows_commands", "data")
 FILES = ["README.md", "contract.json", "contract.svg", "broken.json", "goes_well.json", "a_party_stops.json", "race.json", "rows.txt"]
 NEVER_WARNS = "never warns, stays within 128 bits"
+# How a line begins that tells of a party.
+OF_PARTY = ('{"address"', '{"role_token"')
 FROM_NOTHING = "from a start without accounts"
+# How a scenario names the contract of its folder.
+OF_FOLDER = {"file": "contract.json"}
 # the first cells of a row of the table "What each party can get"
 SHARE = r"^\| ([^|]+) \| ([^|]+) \| ([0-9]+) \| ([0-9]+) \|"
 
@@ -51,11 +55,9 @@ def scenarios(folder):
     return sorted(name for name in names if name.endswith(".json") and '"plans"' in read(folder, name))
 
 
-def with_contract(text, contract):
-    """The text of a scenario, with the contract in place of the first that it has."""
-    first = json.loads(text)["contracts"][0]["contract"]
-    old, new = (json.dumps(each, separators=(",", ":"), ensure_ascii=False) for each in (first, contract))
-    return text.replace(old, new)
+def played(folder, scenario):
+    """The command that plays a scenario of a folder: those of the gallery name their contracts by files."""
+    return f"marlowe play {scenario} --one" + (" --files" if folder.startswith("gallery/") else "")
 
 
 def same_picture(dot, svg):
@@ -73,7 +75,7 @@ def pictures(folder, of_contract, plays):
     for name, command, numbered in of_contract:
         yield name, True, draw.drawn(given.get(command, ""), numbered)
     for name in plays:
-        lines = given.get(f"marlowe play {name} --one", "")
+        lines = given.get(played(folder, name), "")
         yield name.replace(".json", ".svg"), False, timeline.drawn(lines, json.loads(read(folder, name)))
 
 
@@ -92,11 +94,11 @@ def faults_of_folder(folder):
             yield f"no {name}"
     for name in scenarios(folder):
         text = read(folder, name)
-        if json.loads(text)["contracts"][0]["contract"] != contract:
+        if json.loads(text)["contracts"][0]["contract"] != OF_FOLDER:
             yield f"{name}: another contract"
         if name.removesuffix("json") + "svg" not in page and name != "goes_well.json":
             yield f"{name}: the page doesn't name it"
-        if f"marlowe play {name} --one" not in answers(folder):
+        if played(folder, name) not in answers(folder):
             yield f"{name}: not played"
     if "marlowe table contract.json" not in answers(folder):
         yield "no table"
@@ -111,10 +113,21 @@ def share(line):
     return (*party.values(), token["token_name"] or "lovelace", *(bounds.groups() if bounds else ()))
 
 
+def bounds_of(line):
+    """The bounds above 0 of a line that tells what a party is paid or loses, each with the party and the token."""
+    found = re.fullmatch(r"(.*\}) (?:at least ([0-9]+), at most ([0-9]+)|at most ([0-9]+) down)", line) if line.startswith(OF_PARTY) else None
+    for words, number in zip(("at least {}", "at most {}", "at most {} down"), found.groups()[1:] if found else ()):
+        if number not in (None, "0"):
+            yield f"{found[1]} {words.format(number)}"
+
+
 def faults_of_analysis(folder, contract, page):
     told, of_broken = (answers(folder).get(f"marlowe analyse {name}", "").splitlines() for name in ("contract.json", "broken.json"))
+    told, reached = (told[:told.index(FROM_NOTHING) + 1], told[told.index(FROM_NOTHING) + 1:]) if FROM_NOTHING in told else (told, [])
     if told[:1] != [NEVER_WARNS]:
         yield "contract.json: not analysed, or it may warn"
+    elif sorted(line for line in reached if line.startswith(OF_PARTY)) != sorted(f"{bound}, by this run:" for line in told for bound in bounds_of(line)):
+        yield "rows.txt: not each bound above 0 has its run"
     elif told[-1] != FROM_NOTHING or re.findall(SHARE, page, re.M) != [share(line) for line in told if line.startswith("{") and not line.endswith(" down")]:
         yield "README.md: its table has other shares than the row"
     elif not all(line.replace("all can be taken out", "lets all be taken out") in " ".join(page.split()) for line in told if line.startswith("all ")):
@@ -142,12 +155,6 @@ def missing():
 
 
 def draw_all():
-    for name in sorted(os.listdir(os.path.join(DATA, "gallery"))):
-        folder = f"gallery/{name}"
-        if os.path.isdir(os.path.join(DATA, folder)):
-            contract = json.loads(read(folder, "contract.json"))
-            for scenario in scenarios(folder):
-                write(with_contract(read(folder, scenario), contract), folder, scenario)
     for folder, drawings in all_pictures():
         for name, is_contract, drawing in drawings:
             if is_contract:

@@ -2,11 +2,13 @@
 
 Needs    nothing: it has no code of the program, and shares none of its definitions.
 Usage    compare.py, ledger.py and the suite in ../conformance import it.
+         interpreter.py CONTRACT STATE TRANSACTION       prints the same of these files
 Expect   `printed(contract, state, transaction)` to give the text that `marlowe run` prints. It reads contracts as JSON data, takes each
          form at its word, and says nothing of malformed input. A list that is handed over as `taken` gets the rules that a transaction takes, in
          their order: the names of ../conformance/rules.py, some with the way in which it goes behind a colon.
 """
 import json
+import sys
 
 LEAST, GREATEST = -2**127, 2**127 - 1
 # Stands in `taken` behind a rule that comes to a number that JSON doesn't have.
@@ -353,3 +355,12 @@ def printed(contract, state, transaction):
         return json.dumps(outcome(contract, state, transaction), separators=(",", ":"), sort_keys=True, ensure_ascii=False)
     except Refused as fault:
         return f"refused {fault}"
+
+
+def data_of(path):
+    with open(path, encoding="utf-8") as file:
+        return json.load(file)
+
+
+if __name__ == "__main__":
+    print(printed(*map(data_of, sys.argv[1:4])))

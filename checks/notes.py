@@ -170,6 +170,8 @@ def texts_there() -> list[tuple[str, str]]:
         if sort and "refus" not in path:
             with open(path, newline="") as file:
                 text = file.read()
+            with open(os.path.join(os.path.dirname(path), "contract.json"), newline="") as file:
+                text = text.replace('{"file":"contract.json"}', file.read())
             if re.search(r'\{\s*"', text):
                 found.append((sort, text))
     return found

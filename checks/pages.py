@@ -4,13 +4,14 @@
 Usage    pages.py
 Needs    nothing built: what is printed stands in the rows of crates/rows_commands/data/tutorial, which the gate runs.
 Expect   `N files and M commands as written, L links lead somewhere, W names are there`. In docs/tutorial.md a line with a file's name has the
-         file's text below it. Each command is a row, and one that ends its block has below it what it prints, which may be folded at any comma: a line goes on with one that
-         begins with a space. Each file and each row of that folder comes up. A file that the rows give is a part of what a row before it prints,
-         since that is where the reader takes it from. A link within the repository leads to a file or a folder, and one with a `#` to a heading
-         of it. A path in backquotes leads somewhere, from the top, from the page, from `crates` or from a crate's folder; where the section
-         has named crates before, from one of these. Of `crate::item` the crate has the item, and each other word in backquotes of CONTRIBUTING
-         comes up in some file. README's table has the layers of crates.txt, and docs/layers.md names each crate. The
-         toolchain's line is that of `rt version`, where `rt` is there. No sentence has more than 30 words, tables and what is in backquotes aside.
+         file's text below it. Each command is a row, and one that ends its block has below it what it prints, which may be folded at any comma: a
+         line goes on with one that begins with a space. Each file and each row of that folder comes up. A file that the rows give is a part of what
+         a row before it prints, since that is where the reader takes it from. A link within the repository leads to a file or a folder, and one with
+         a `#` to a heading of it. A path in backquotes leads somewhere, from the top, from the page, from `crates` or from a crate's folder; where
+         the section has named crates before, from one of these. Of `crate::item` the crate has the item, and each other word in backquotes of
+         CONTRIBUTING comes up in some file. README's table has the layers of crates.txt, and docs/layers.md names each crate. In crates.txt no crate
+         stands on a later one. The toolchain's line is that of `rt version`, where `rt` is there. No sentence has more than 30 words, tables and what
+         is in backquotes aside, README has at most 120 lines and DECISIONS 200; these two, BELIEVE, PROVED and PROOF_COST have at most 160 columns.
 Else     a line for each fault, and status 1."""
 import functools
 import itertools
@@ -131,7 +132,7 @@ def faults_of_links(counts):
 # ---- names
 
 # What stands for any path, or is made by a command.
-EXCEPTIONS = {"conformance/cases/SUBJECT.jsonl", "out/rlib/CRATE.rlib/toolchain/mir.json"}
+EXCEPTIONS = {"conformance/cases/SUBJECT.jsonl", "out/rlib/CRATE.rlib/toolchain/mir.json", "bindings/out"}
 CRATES = {path.name for path in (TOP / "crates").iterdir()}
 
 
@@ -196,24 +197,43 @@ def faults_of_sentences():
                 yield f"{page.relative_to(TOP)}: over {MOST_WORDS} words: {sentence}"
 
 
+# ---- sizes
+
+MOST_LINES, MOST_COLUMNS = {"README.md": 120, "docs/DECISIONS.md": 200}, 160
+NARROW = ("README.md", "docs/BELIEVE.md", "docs/DECISIONS.md", "docs/PROVED.md", "docs/PROOF_COST.md")
+
+
+def faults_of_sizes():
+    for name in NARROW:
+        lines = (TOP / name).read_text().splitlines()
+        yield from (f"{name}:{number}: over {MOST_COLUMNS} columns" for number, line in enumerate(lines, 1) if len(line) > MOST_COLUMNS)
+        if len(lines) > MOST_LINES.get(name, len(lines)):
+            yield f"{name}: over {MOST_LINES[name]} lines"
+
+
 # ---- layers
 
 def layers():
-    """The layers of crates.txt, each with its crates, from below to above."""
+    """The layers of crates.txt, each with its crates and what each stands on, from below to above."""
     for text in (TOP / "crates.txt").read_text().split("# ---- ")[1:]:
         heading, *lines = text.splitlines()
-        yield heading.split(":")[0], [line.split(":")[0] for line in lines if re.match(r"\w+:", line)]
+        found = [re.match(r"(\w+)(?: staticlib)?:(.*)", line) for line in lines]
+        yield heading.split(":")[0], {each[1]: each[2].split() for each in found if each}
 
 
 def faults_of_layers():
-    """README's table has the layers of crates.txt, in their order and with their ends, and docs/layers.md names each crate."""
+    """No crate stands on a later one. README's table has the layers of crates.txt, in their order and with their ends, and docs/layers.md names each crate."""
     table = re.findall(r"^\| ([\w ]+) \| `(\w+)`[^|]*?(?:`([\w.]+)`)? \|", (TOP / "README.md").read_text(), re.M)
     written = [(layer, first, last) for layer, first, last in table if layer != "Uses and tests"]
-    wanted = [(layer, crates[0], crates[-1]) for layer, crates in layers() if layer != "Uses and tests"]
+    wanted = [(layer, [*crates][0], [*crates][-1]) for layer, crates in layers() if layer != "Uses and tests"]
     yield from (f"README.md: {one} where crates.txt has {other}" for one, other in itertools.zip_longest(written, wanted) if one != other)
     text = re.sub(r"^```.*?^```", "", (TOP / "docs" / "layers.md").read_text(), flags=re.M | re.S)
     named = {*re.findall(r"\w+", " ".join(re.findall(r"`([^`]+)`", text)))}
     yield from (f"docs/layers.md: `{crate}` isn't named" for _, crates in layers() for crate in crates if crate not in named)
+    below = set()
+    for crate, others in (pair for _, crates in layers() for pair in crates.items()):
+        yield from (f"crates.txt: {crate} stands on {other}, which comes later" for other in others if other in CRATES - below)
+        below.add(crate)
 
 
 # ---- the toolchain
@@ -230,7 +250,7 @@ def faults_of_toolchain():
 
 def main():
     counts = {"files": set(), "commands": set(), "links": 0, "names": 0}
-    faults = [*faults_of_tutorial(counts), *faults_of_links(counts), *faults_of_names(counts), *faults_of_sentences(), *faults_of_layers(), *faults_of_toolchain()]
+    faults = [*faults_of_tutorial(counts), *faults_of_links(counts), *faults_of_names(counts), *faults_of_sentences(), *faults_of_sizes(), *faults_of_layers(), *faults_of_toolchain()]
     for fault in faults:
         print(fault)
     if not faults:

@@ -8,7 +8,8 @@ Usage    plays.py SCENARIO                      prints what `marlowe play --one 
          plays.py --json SCENARIO               the same of `marlowe play --one --json SCENARIO`
          plays.py --strict SCENARIO [NAME ..]   `well` or `not well`, as `marlowe play --one --strict` has status 0 or 3; threads with these names may stay open
          plays.py --replay SCENARIO PRINTED     makes the calls of a printed play again, in its order
-         plays.py --compare N SEED PROGRAM      compares the program on N random scenarios, played on one thread and on many
+         plays.py --compare N SEED PROGRAM      compares the program on N random scenarios, played in turn and at once, in lines, explained and as objects, and
+                                                whether they went well
          plays.py --race N SEED PROGRAM         has the program play N times, with ten plans of a hundred steps each that race for twenty threads
 Expect   the lines of the play and status 0, or one line `refused ..` on standard error and status 1;
          `replayed N entries`, where each printed verdict is the one that comes here, seat by seat;
@@ -513,8 +514,7 @@ def in_turn(text):
 
 def played(text, explain=False):
     """The lines of such a play; explained, with what stands behind them and at the end; or as objects, an object a line."""
-    play = in_turn(text)
-    return play.objects() if explain == "json" else play.explained() if explain else play.whole()
+    return told_by(in_turn(text), explain)
 
 
 def run_whole(play, seat, calls):
@@ -557,21 +557,38 @@ class Seats:
         return [seat for seat, call in enumerate(self.next) if call]
 
 
-def replayed(text, lines):
+def seats_of(lines, face):
+    """The seats of the entries of a printed play, in order, each with the line of its entry where that is one of lines."""
+    for line in lines:
+        if face == "json":
+            told = json.loads(line)
+            if "entries" in told:
+                return
+            if "seat" in told:
+                yield told["seat"], None
+        elif found := ENTRY.match(line):
+            yield int(found[1]), line
+        elif not line.startswith("    "):
+            return
+
+
+def told_by(play, face):
+    """All that is told of a play: explained, as objects, or in lines alone."""
+    return play.objects() if face == "json" else play.explained() if face else play.whole()
+
+
+def replayed(text, lines, face=False):
     """Makes the calls of a printed play in its order, and gives the number of its entries."""
     play = Play(text)
     seats = Seats(play)
-    for line in lines:
-        found = ENTRY.match(line)
-        if not found:
-            break
-        if not seats.answer(int(found[1])):
+    for seat, line in seats_of(lines, face):
+        if not seats.answer(seat):
             raise Differs(f"{line}\nhere that seat makes no call then")
-        if play.lines[-1] != line:
+        if line and play.lines[-1] != line:
             raise Differs(f"{line}\nhere {play.lines[-1]}")
     if seats.waiting():
         raise Differs(f"the entries end\nhere seat {seats.waiting()[0]} makes a call then")
-    rest = play.whole()
+    rest = told_by(play, face)
     for place in range(max(len(rest), len(lines))):
         theirs, ours = (part[place] if place < len(part) else "(nothing)" for part in (lines, rest))
         if theirs != ours:
@@ -603,10 +620,22 @@ def run(program, *words):
     return done.stdout.decode(), done.stderr.decode(), done.returncode
 
 
-def first_line(streams):
-    """Standard error without the lines that explain a refusal."""
+FACES = {False: [], True: ["--explain"], "json": ["--json"]}
+
+
+def in_lines(face, streams, want):
+    """A refusal of a play by its line alone: lines that explain it are left out, so are notes on keys, and members are read. A refused setup that has no
+    members but its name counts as what is wanted where the statuses agree."""
     printed, told, status = streams
-    return printed, "".join(told.splitlines(True)[:1]), status
+    if face == "json" and printed.startswith('{"refused":'):
+        refused = json.loads(printed)["refused"]
+        if refused["of"] == "scenario":
+            return "", f"refused scenario {refused['name']}\n", 1 if status == 4 else status
+        if "fault" not in refused:
+            return want if (refused["of"], status) == ("setup", want[2]) else streams
+        kind = next((kind for kind in ("contract", "thread") if kind in refused), "genesis")
+        return "", f"refused {' '.join(filter(None, [kind, refused.get(kind), refused['fault']]))}\n", status
+    return printed, "".join([line for line in told.splitlines(True) if not line.startswith("note: ")][:1]), status
 
 
 def compare(count, seed, program):
@@ -617,28 +646,38 @@ def compare(count, seed, program):
             text = random_scenarios.text(f"{seed}.{number}", Play)
             with open(path, "wb") as file:
                 file.write(text)
-            want, got = wanted(text), run(program, path, "--one")
-            if want != got:
-                differs(seed, number, text, want, got)
-            more, got = wanted(text, True), first_line(run(program, path, "--one", "--explain"))
-            if more != got:
-                differs(seed, number, text, more, got)
-            many = run(program, path)
-            if want[2] and many != want:
-                differs(seed, number, text, want, many)
-            if not want[2]:
-                compare_many(seed, number, text, many)
-            told.update(kind(line) for line in (want[0] + want[1]).splitlines())
+            for face, flags in FACES.items():
+                want = wanted(text, face)
+                for ways in ["--one"], []:
+                    got = in_lines(face, run(program, path, *ways, *flags), want)
+                    if (ways or want[2]) and want != got:
+                        differs(seed, number, text, want, got)
+                    if not ways and not want[2]:
+                        compare_many(seed, number, text, got, face)
+                if not face:
+                    told.update(kind(line) for line in (want[0] + want[1]).splitlines())
+            told["strict: " + compare_strict(seed, number, text, run(program, path, "--one", "--strict"))] += 1
     print(count, "scenarios agree")
     for word in sorted(told):
         print(f"  {told[word]:6} {word}")
 
 
-def compare_many(seed, number, text, many):
+def compare_many(seed, number, text, many, face):
     try:
-        replayed(text, many[0].removesuffix("\n").split("\n"))
+        replayed(text, lines_of(many[0].encode()), face)
     except Differs as line:
         differs(seed, number, text, line, many)
+
+
+def compare_strict(seed, number, text, got):
+    """Whether a play went well, which a status of 3 denies: in a word."""
+    try:
+        want, word = (0, "well") if in_turn(text).is_well() else (3, "not well")
+    except Refused:
+        want, word = 1, "refused"
+    if got[2] != want:
+        differs(seed, number, text, want, got)
+    return word
 
 
 def race_of(seed):

@@ -41,6 +41,10 @@ PRINTED = {
     "TableFault": (["rows_commands/values"], {"Contract": "refused contract ", "Compile": "refused TooDeep$"}),
     "PlayFault": (["rows_commands"], {"Scenario": "refused scenario ", "Setup": "refused thread "}),
     "SetupFault": (["rows_commands"], {"Refused": "refused thread "}),
+    "FilesFault": (["rows_commands"], {"Contract": "refused contract my deal NoForm$"}),
+    "JoinFault": ([], {}),
+    "DefineFault": (["rows_serve"], {}),
+    "LineFault": (["rows_serve"], {}),
     "GenesisFault": (["rows_chain"], {}),
     "BundleFault": (["rows_chain/transactions"], {}),
     "TxFault": (["rows_chain/transactions", "rows_chain"], {}),
@@ -126,6 +130,15 @@ LEFT = {
     "call marlowe_run::run_with_texts": WITHIN,
     "call marlowe_run::table_text": WITHIN,
     "== Face": DERIVED,
+    "== SetupRefusal": DERIVED,
+    "== Cause": DERIVED,
+    "== Telling": DERIVED,
+    "== Kind": DERIVED,
+    "== DefineFault": DERIVED,
+    "== LineFault": DERIVED,
+    "== Part": DERIVED,
+    "== Ended": DERIVED,
+    "fault DefineFault::Memory": MEMORY,
     "call marlowe_run::outcome_line": TRACED,
     "call marlowe_run::read_start": TRACED,
     "call semantics::apply": TRACED,
@@ -142,6 +155,10 @@ LEFT = {
     "fault WriteFault::Memory": MEMORY,
     "fault PlayFault::Memory": MEMORY,
     "fault SetupFault::Memory": MEMORY,
+    "fault FilesFault::Memory": MEMORY,
+    "fault FilesFault::NotJoined": "no scenario is known that has it",
+    "fault JoinFault::Memory": MEMORY,
+    "fault JoinFault::NotJoined": "no scenario is known that has it",
     "fault GenesisFault::Memory": MEMORY,
     "fault BundleFault::Memory": MEMORY,
     "fault BuildFault::Memory": MEMORY,
@@ -223,6 +240,8 @@ def lines(part):
 FOLDERS = ["rows_commands/values", "rows_chain/transactions"]
 LINES = {part: lines(part) for part in [program for program in ROWS if (TOP / "crates" / program / "data").is_dir()] + FOLDERS}
 ANSWERS = {program: [line[2:].removeprefix("stderr ") for line in rows if line.startswith("= ")] for program, rows in LINES.items()}
+# What `rows_serve` prints, line by line.
+ANSWERS["rows_serve"] = read(TOP / "crates/rows_serve/stdout").splitlines()
 # `marlowe_commands` is what the command lines of rows_commands call.
 RUN = code(ROWS + TESTS + ["marlowe_commands"])
 TESTED = code(TESTS)

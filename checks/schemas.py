@@ -10,7 +10,10 @@ The texts: those of the examples, the gallery, the tutorial and the plays in cra
 them spoiled in the ways of spoiled.py, and texts with the keys of two forms, of which the first counts. Asked is:
 - that a text which is read has the schema's form, and one that is NoForm has not. Of other faults (a number that isn't whole, a time beyond its range, bytes
   that aren't hexadecimal, an account of 0, a merkleized case) a schema may say either. It doesn't know which names a scenario has.
-- that an outcome, an answer of `next --json`, `table --json` and `analyse --json`, and a refusal has its form; and that it has none once a key of it is taken away.
+- that an outcome, an answer of `next --json`, `table --json` and `analyse --json`, and a refusal has its form; and that it has none once a key
+  of it is taken away, but for those that are there only where they are asked for.
+- of the rows in crates/rows_serve: that each answer has its form, and what stands at `ok` the form of what was asked; that a request with an `ok` has its form,
+  and a line that is no request, or in which something but a state is NoForm, has none. A schema allows texts for numbers of a state.
 
 A schema is JSON Schema, draft 7, of these words alone, which are checked here: `type`, `required`, `properties`, `items`, `minItems`, `maxItems`, `enum`, `pattern`,
 `if`, `then`, `else`, `$ref`, and `definitions`, `title`, `$schema` beside them. As that draft says, what stands beside a `$ref` is passed over.
@@ -185,20 +188,27 @@ def texts_of_rows(path):
             yield OF_ROWS[word], given.whole(rest)
 
 
+def with_files(path):
+    """A file's text, in which a file of its folder that it names stands in the place of what names it."""
+    def named(found):
+        file = path.parent / found[1].decode()
+        return file.read_bytes() if file.exists() else found[0]
+
+    return re.sub(rb'\{"file":"([^"]*)"\}', named, path.read_bytes())
+
+
 def texts_at_hand():
     """The sorts and texts of the files, of rows and of the suite's readings."""
     for path in sorted(DATA.rglob("*.json")):
-        yield sort_of(path.name) or sort_by_keys(parsed(path.read_bytes())), path.read_bytes()
+        text = with_files(path)
+        yield sort_of(path.name) or sort_by_keys(parsed(text)), text
     for path in sorted(DATA.rglob("*.txt")):
         yield from texts_of_rows(path)
-    for line in (CASES / "readings.jsonl").read_text().splitlines():
-        case = json.loads(line)
-        for sort, value in case.get("ask", {}).get("read", {}).items():
-            yield sort, json.dumps(value).encode()
-        if "line" in case and isinstance(parsed(case["line"].encode()), dict):
-            for sort, value in parsed(case["line"].encode()).get("read", {}).items():
-                if sort in READERS and not isinstance(value, readings.Float):
-                    yield sort, json.dumps(value, default=lambda _: 0.5).encode()
+    for line in (CASES / "readings.jsonl").read_text(encoding="utf-8").removesuffix("\n").split("\n"):
+        asked = parsed(line.split("\t")[1].encode())
+        for sort, value in (asked.get("read", {}) if isinstance(asked, dict) else {}).items():  # a list has the pieces of a line
+            if sort in READERS and not isinstance(value, readings.Float):
+                yield sort, json.dumps(value, default=lambda _: 0.5).encode()
 
 
 # Texts with the keys of two forms. The first form in the order of docs/formats.md counts: so each stands beside whether it is read.
@@ -206,6 +216,22 @@ ADA = {"currency_symbol": "", "token_name": ""}
 ROLE = {"role_token": "a"}
 PAY = {"pay": 1, "token": ADA, "from_account": ROLE, "to": {"party": ROLE}}
 IF = {"if": True, "then": "close", "else": "close"}
+
+
+def waits(action):
+    """A contract that waits for one action."""
+    return {"when": [{"case": action, "then": "close"}], "timeout": 1, "timeout_continuation": "close"}
+
+
+def plays(intent):
+    """A scenario in which one party has one intent."""
+    return {
+        "tick": 0, "genesis": [], "contracts": [{"name": "c", "currency": "", "contract": "close"}],
+        "threads": [{"name": "t", "contract": "c", "by": "a", "accounts": [], "minTime": 0}],
+        "plans": [{"name": "p", "keys": ["a"], "change": "a", "intents": [intent]}],
+    }
+
+
 OF_TWO_FORMS = [
     ("contract", {**IF, **PAY}, True), ("contract", {**IF, **PAY, "pay": "one"}, False), ("contract", {**PAY, **IF, "if": 7}, True),
     ("contract", {**IF, "when": 7, "timeout": 1, "timeout_continuation": "close"}, True), ("contract", {**IF, "if": 7, "assert": True}, False),
@@ -220,6 +246,14 @@ OF_TWO_FORMS = [
     ("contract", {"let": "x", "be": {"amount_of_token": ADA, "in_account": {"address": "x", "role_token": 7}}, "then": "close"}, True),
     ("contract", {"let": "x", "be": {"amount_of_token": ADA, "in_account": {"address": 7, "role_token": "x"}}, "then": "close"}, False),
     ("contract", {**PAY, "to": {"account": ROLE, "party": 7}, "then": "close"}, True), ("contract", {**PAY, "to": {"account": 7, "party": ROLE}, "then": "close"}, False),
+    ("contract", waits({"party": ROLE, "deposits": 1, "of_token": ADA, "into_account": ROLE, "for_choice": 7, "choose_between": 7}), True),
+    ("contract", waits({"party": ROLE, "deposits": "one", "of_token": ADA, "into_account": ROLE, "notify_if": True}), False),
+    ("contract", waits({"for_choice": {"choice_name": "n", "choice_owner": ROLE}, "choose_between": [{"from": 0, "to": 1}], "notify_if": 7}), True),
+    ("contract", waits({"for_choice": 7, "choose_between": [], "notify_if": True}), False),
+    ("contract", {**IF, "then": {**waits({"notify_if": True}), **PAY}}, True), ("contract", {**IF, "then": {**waits({"notify_if": 7}), "assert": True, "then": "close"}}, False),
+    ("scenario", plays({"step": "t", "inputs": [], "from": 0, "to": 1, "steps": 7}), True), ("scenario", plays({"step": 7, "inputs": [], "steps": [], "from": 0, "to": 1}), False),
+    ("scenario", plays({"steps": [], "from": 0, "to": 1, "claim": 7, "role": 7}), True), ("scenario", plays({"claim": 7, "role": "r", "from": 0, "to": 1, "advance": 1}), False),
+    ("scenario", plays({"round": 1, "workers": 1, "advance": "now"}), True), ("scenario", plays({"round": 1, "workers": 17, "advance": 1}), False),
     ("input", {"for_choice_id": {"choice_name": "n", "choice_owner": ROLE}, "input_that_chooses_num": 1, "that_deposits": "x"}, True),
     ("input", {"for_choice_id": 7, "input_that_chooses_num": 7, "input_from_party": ROLE, "that_deposits": 1, "of_token": ADA, "into_account": ROLE}, True),
 ]
@@ -268,15 +302,67 @@ def answers():
                 yield "analysis.json", answer[0]
 
 
+# Keys that are there only where they are asked for.
+ASKED_FOR = {"analysis.json": {"notes"}}
+
+
 def faults_of_printed(counts):
     for name, text in printed():
         value = json.loads(text)
         counts[f"{name}: printed"] += 1
         if not has_form(name, schema_of(name), value):
             yield f"{name}: {text[:400]}: is printed and has no form"
-        for key in value:
+        for key in value.keys() - ASKED_FOR.get(name, set()):
             if has_form(name, schema_of(name), {other: value[other] for other in value if other != key}):
                 yield f"{name}: {text[:400]}: has a form without {key}"
+
+
+# ---- a stream of requests
+
+STREAM = TOP / "crates" / "rows_serve"
+REQUESTS = ["run", "trace", "next", "table", "analyse", "play", "read", "bytes", "define", "forget"]
+OF_REQUESTS = {
+    "run": "outcome.json", "trace": "answer.json#/definitions/outcomes", "next": "next.json", "table": "table.json", "analyse": "analysis.json",
+    "play": "answer.json#/definitions/played", "bytes": "answer.json#/definitions/bytes", "define": "answer.json#/definitions/truth", "forget": "answer.json#/definitions/truth",
+}
+OF_READ = {"contract": "contract.json", "state": "state_with_texts.json", "transaction": "transaction.json", "input": "input.json"}
+
+
+def schema_of_ok(asked):
+    """The schema of what stands at `ok` of an answer."""
+    word = next(word for word in REQUESTS if word in asked)
+    return OF_REQUESTS[word] if word != "read" else next(OF_READ[key] for key in OF_READ if key in asked["read"])
+
+
+def json_or_none(line):
+    try:
+        return json.loads(line)
+    except ValueError:
+        return None
+
+
+def faults_of_answer(line, answer):
+    """What is wrong with what the schemas say of a line of a stream and of its answer."""
+    asked = json_or_none(line)
+    if not has_form("answer.json", schema_of("answer.json"), answer):
+        yield f"answer.json: {json.dumps(answer)[:400]}: is printed and has no form"
+    if "ok" not in answer and has_form("answer.json", schema_of("answer.json"), {"id": answer["id"]}):
+        yield f"answer.json: {json.dumps(answer)[:400]}: has a form without refused"
+    is_request = has_form("request.json", schema_of("request.json"), asked)
+    if "ok" in answer and not is_request:
+        yield f"request.json: {line[:400]}: is answered and has no form"
+    if "ok" in answer and not has_form("answer.json", {"$ref": schema_of_ok(asked)}, answer["ok"]):
+        yield f"{schema_of_ok(asked)}: {json.dumps(answer)[:400]}: is printed and has no form"
+    if "ok" not in answer and is_request and "define" not in asked and answer["refused"]["name"] in ("NoObject", "NoRequest", "NoForm") and answer["refused"]["of"] != "state":
+        yield f"request.json: {line[:400]}: has a form and is refused as {answer['refused']['name']}"
+
+
+def faults_of_stream(counts):
+    lines = (STREAM / "stdin").read_text().split("\n")
+    for line, text in zip(lines, (STREAM / "stdout").read_text().split("\n")):
+        answer = json.loads(text)
+        counts[f"a stream: {'ok' if 'ok' in answer else 'refused'}"] += 1
+        yield from faults_of_answer(line, answer)
 
 
 # ---- all
@@ -300,6 +386,7 @@ def faults(count, counts):
     yield from of_two_forms()
     counts["of two forms"] += len(OF_TWO_FORMS)
     yield from faults_of_printed(counts)
+    yield from faults_of_stream(counts)
 
 
 def main():

@@ -3,8 +3,8 @@
 
 Needs    (cd crates/marlowe && rt run -- --version); for --rows also (cd crates/rows_chain && rt run -- transactions/sums.txt)
 Usage    checks/spoiled.py [--seconds N] [--seed N] [--workers N] [--words WORD,..] [--program FILE] [--slow N] [--explain] [--count N] [--rows]
-         for N seconds (60) with so many workers (1), each a process; a worker spoils the same texts in the same order again for the same seed;
-         --explain asks each refusal again with that flag, and --count N ends once so many texts were asked about;
+         for N seconds (60) with so many workers (1), each a process; the same seed spoils the same texts, however many workers share them;
+         --explain asks each refusal again with that flag, and --count N asks about the first N texts of the seed;
          --words takes some of run, table, play and analyse in place of all; --program asks another program, which may take --slow N times as long;
          --rows spoils the rows of transactions in place of the texts
 Expect   how many texts there were of each command, were spoiled in each way and were answered in each kind, and `N spoiled texts, none at fault`;
@@ -20,7 +20,8 @@ most a second; at most 64 MiB. Of rows: status 0 or 1, and nothing on standard e
 is asked again alone before it is at fault.
 An analysis may take two seconds, as the search for runs does what the bound on its work allows, and its text may have status 3 too. Among its texts are those whose
 search costs most, of bench/analysis_growth.py: many bounds of a choice, far constants, squares, alarms without a run. It is also asked:
-- that with and without --json the status is the same, and all that is told: kinds, places, runs, parties, tokens and numbers;
+- that with and without --json the status is the same, and all that is told: kinds, places, runs, parties, tokens and numbers; of a text that isn't read the status is 4 with --json,
+  which has the refusal as an object;
 - that it has the lines, or the keys, of docs/formats.md, in its order; that its places are in the contract's text, with a form that can warn so;
 - that it has alarms where its status is 3, and none where it is 0;
 - that it refuses the contract or the state just where `run` does, by the same line.
@@ -100,6 +101,8 @@ FORMS = {
 STEPS = {"then": ("pay", "let", "assert", "if"), "else": ("if",), "timeout_continuation": ("when",), "when": ("when",)}
 TEXT_FAULTS = "NotJson|TooLong|NoForm|NotWhole|OutOfRange|BadHex"
 NOT_READ = re.compile(rf"refused (?:contract (?:{TEXT_FAULTS}|Merkleized)|state (?:{TEXT_FAULTS}|BadState))\n".encode())
+# A note on a text that is read.
+NOTE = re.compile(r'note: .*(?::\d+:\d+(?: at [.\[]\S*)?: the key ".* (?:is not read|stands again; the last is read)|: \.\. and more)')
 INPUTS = [{"for_choice_id", "input_that_chooses_num"}, {"input_from_party", "into_account", "of_token", "that_deposits"}]
 
 
@@ -272,7 +275,23 @@ def fault_of_command(word, answer):
     if status == 1:
         is_line = err.startswith(b"refused ") and err.endswith(b"\n") and err.count(b"\n") == 1
         return None if is_line and not out else "a refusal that isn't one line on standard error alone"
+    if status == 4 and word == "analyse":
+        return None if line_of_object(out) and not err else "a refusal for tools that isn't one object on standard output alone"
     return f"status {status}"
+
+
+def line_of_object(out):
+    """The line of a refusal that is an object for tools, or nothing where there is no such object."""
+    try:
+        refused = json.loads(out)["refused"]
+        return f"refused {refused['of']} {refused['name']}\n".encode() if out.endswith(b"\n") and out.count(b"\n") == 1 else b""
+    except (ValueError, LookupError, TypeError):
+        return b""
+
+
+def refused_by(answer):
+    """The line of a refusal, for people or for tools."""
+    return line_of_object(answer.out) if answer.status == 4 else answer.err
 
 
 def fault_beside(runner, line, answer):
@@ -284,9 +303,12 @@ def fault_beside(runner, line, answer):
         if fault := fault_of(runner, word, b"", it):
             return f"{what}: {fault}"
     refused = run.err if NOT_READ.fullmatch(run.err) else b""
-    if answer.err != refused or other.err != refused:
+    if refused_by(answer) != refused or refused_by(other) != refused:
         return f"refused otherwise than by run, {refused!r}"
-    if answer.status != other.status:
+    for_tools, for_people = (answer, other) if "--json" in line else (other, answer)
+    if refused and (for_tools.status, for_people.status) != (4, 1):
+        return f"status {for_tools.status} for tools and {for_people.status} for people"
+    if not refused and answer.status != other.status:
         return f"status {answer.status}, and {other.status} for the other reader"
     try:
         if not refused:
@@ -308,12 +330,20 @@ def fault_explained(runner, word, line, answer):
         first, *lines = again.err.decode().split("\n")[:-1]
         found = explained.FIRST.fullmatch(first)
         if not found:
-            see(bool(lines) == (word != "play") and all(it.startswith("  ") for it in lines), f"{len(lines)} lines are told of {first}")
+            see_untold(word, first, lines)
         else:
             see_explained(runner, word, line, found, lines)
         return None
     except (explained.Wrong, readings.Fault, ValueError, LookupError, TypeError, AttributeError) as fault:
         return f"explained: {type(fault).__name__}: {fault}: {again.err[:500]!r}"
+
+
+def see_untold(word, first, lines):
+    """Sees of a refusal once all texts are read that lines explain it, but for one of a play, and that there are but notes on the texts behind them."""
+    notes = [it for it in lines if it.startswith("note: ")]
+    told = lines[: len(lines) - len(notes)]
+    see(bool(told) == (word != "play") and all(it.startswith("  ") for it in told), f"{len(told)} lines are told of {first}")
+    see(all(map(NOTE.fullmatch, notes)), f"no notes: {notes[:3]}")
 
 
 def see_explained(runner, word, line, found, lines):
@@ -518,11 +548,11 @@ def kinds_of(word, answer):
     """The kinds of an answer: of rows each line's verdict, else of a refusal its names without what is particular to the text."""
     if word == "rows":
         return [f"{word}: {it[1]}" for it in map(VERDICT.match, answer.out.decode("utf-8", "replace").split("\n")) if it]
-    if word == "analyse" and answer.status != 1:
+    if word == "analyse" and answer.status not in (1, 4):
         return [f"{word}: {kind} {'not known' if run is None else 'with a run'}" for kind, _, run in told_of(answer)[0]] or [f"{word}: never warns"]
     if answer.status == 0:
         return [f"{word}: an answer"]
-    return [f"{word}: {' '.join(filter(NAME.fullmatch, answer.err.decode('utf-8', 'replace').split()))}"]
+    return [f"{word}: {' '.join(filter(NAME.fullmatch, refused_by(answer).decode('utf-8', 'replace').split()))}"]
 
 
 def texts_of_examples():
@@ -557,12 +587,13 @@ def rows_of_transactions():
     return found
 
 
-def spoil_texts(chance, room, given):
-    """Spoils a text of an example, again and again: what is asked about which text, and what was done to it."""
+def spoils_texts(room, given):
+    """What spoils a text of an example by chance: it gives what is asked about which text, and what was done to it."""
     examples = texts_of_examples()
     everything = [it for some in examples.values() for texts in some for it in texts]
     files = {word: [files_of(f"{room}/{word}_{number}", it) for number, it in enumerate(some)] for word, some in examples.items()}
-    while True:
+
+    def spoil(chance):
         word = chance.choice(given.words)
         number = chance.randrange(len(examples[word]))
         line, texts = [given.program, word, *files[word][number]], examples[word][number]
@@ -572,22 +603,26 @@ def spoil_texts(chance, room, given):
         if word == "analyse" and place == 0 and chance.random() < 0.5:
             line.pop()
         flags = {"play": ["--one"], "analyse": ["--json"]}.get(word, []) if chance.random() < 0.5 else []
-        yield word, [*line, *flags], text, done
+        return word, [*line, *flags], text, done
+
+    return spoil
 
 
-def spoil_rows(chance, room, given):
-    """Spoils a line among some rows of transactions."""
+def spoils_rows(room, given):
+    """What spoils a line among some rows of transactions by chance."""
     rows = rows_of_transactions()
     everything = [it for some in texts_of_examples().values() for texts in some for it in texts]
-    while True:
+
+    def spoil(chance):
         published, lines = chance.choice(rows)
         at = chance.randrange(len(lines))
         few = [*published, *lines[max(0, at - 12) : at + 12]]
         place = chance.randrange(len(few))
         few[place], done = spoiled(chance, few[place], everything)
         text = b"\n".join(few) + b"\n"
-        if not COUNTED.search(text):
-            yield "rows", [ROWS, f"{room}/spoiled"], text, done
+        return spoil(chance) if COUNTED.search(text) else ("rows", [ROWS, f"{room}/spoiled"], text, done)
+
+    return spoil
 
 
 def files_of(beginning, texts):
@@ -606,16 +641,20 @@ def kept(line):
 
 
 def work(arguments):
-    """A worker's part: how many there were of each kind, the inputs at fault, and the most seconds and KiB of one that isn't."""
-    number, given = arguments
-    chance, spoil, ends = random.Random(f"{given.seed} {number}"), spoil_rows if given.rows else spoil_texts, time.monotonic() + given.seconds
+    """A worker's part: how many there were of each kind, the inputs at fault, and the most seconds and KiB of one that isn't.
+
+    Texts are numbered through all workers: of N workers each takes every Nth. How a text is spoiled depends on the seed and its number alone.
+    """
+    worker, given = arguments
+    ends = time.monotonic() + given.seconds
     kinds, faults, seconds, kib = collections.Counter(), [], 0, 0
-    count = given.count // given.workers
     with tempfile.TemporaryDirectory(prefix="spoiled-", dir="/dev/shm") as room, Runner(given.slow, given.explain) as runner:
+        spoil = (spoils_rows if given.rows else spoils_texts)(room, given)
         file = os.open(f"{room}/spoiled", os.O_WRONLY | os.O_CREAT)
-        for asked, (word, line, text, done) in enumerate(spoil(chance, room, given)):
-            if time.monotonic() > ends or len(faults) == MOST_FAULTS or count and asked == count:
+        for number in itertools.count(worker, given.workers):
+            if time.monotonic() > ends or len(faults) == MOST_FAULTS or given.count and number >= given.count:
                 break
+            word, line, text, done = spoil(random.Random(f"{given.seed} {number}"))
             os.pwrite(file, text, 0)
             os.ftruncate(file, len(text))
             answer, fault = judged(runner, word, line, text)
@@ -657,8 +696,10 @@ def main():
     program = ROWS if given.rows else given.program
     if not os.path.exists(program):
         sys.exit(f"{program} isn't built")
+    begun = time.monotonic()
     with multiprocessing.Pool(given.workers) as pool:
         told = pool.map(work, [(it, given) for it in range(given.workers)])
+    took = time.monotonic() - begun
     kinds, faults = sum((it[0] for it in told), collections.Counter()), [it for part in told for it in part[1]]
     for kind, count in sorted(kinds.items()):
         print(f"{count:9} {kind}")
@@ -667,7 +708,7 @@ def main():
         print(f"{fault}: {' '.join(line)}: {answer.err[:300]!r}")
     asked = sum(count for kind, count in kinds.items() if kind.startswith("asked "))
     most = f"{max(it[2] for it in told):.2f} s and {max(it[3] for it in told)} KiB"
-    print(f"{asked / given.seconds:.0f} a second, at most {most}, {late} asked again alone")
+    print(f"{asked / took:.0f} a second, at most {most}, {late} asked again alone")
     print(f"{asked} spoiled texts, {len(still) or 'none'} at fault")
     return 1 if still else 0
 

@@ -19,11 +19,13 @@ The calls of a crate are those that its lib.rt passes on, and the methods of the
 
 import re
 import sys
+import textwrap
 from pathlib import Path
 
 TOP = Path(__file__).resolve().parent.parent
 PAGE = TOP / "docs" / "BELIEVE.md"
 BEGIN, END = "<!-- written by tools/believe.py -->", "<!-- to here -->"
+COLUMNS = 160
 
 # The faces of the page: a title, and the calls. What a crate passes on is read off its lib.rt.
 FACES = [
@@ -429,6 +431,27 @@ def first_words(file):
     return said.replace("|", "\\|")
 
 
+def ranges(numbers):
+    """Numbers that rise, with three and more that follow one another as `4-7`."""
+    runs = []
+    for number in numbers:
+        if runs and number == runs[-1][-1] + 1:
+            runs[-1].append(number)
+        else:
+            runs.append([number])
+    return " ".join(f"{run[0]}-{run[-1]}" if len(run) > 2 else " ".join(map(str, run)) for run in runs)
+
+
+def file_row(begin, said):
+    """A row of the table of files. Where it would be too wide it lacks what stands in brackets, and then what is told last."""
+    whole = re.sub(r" \([^()]*\)", "", said)
+    for text in (said, whole, whole.split("; ")[0], re.split(", (?:as|and) ", whole)[0]):
+        row = f"{begin} {text} |"
+        if len(row) <= COLUMNS:
+            break
+    return row
+
+
 def page():
     """The tables of the page."""
     faces = [(title, Beliefs(calls_of(words))) for title, words in FACES]
@@ -443,11 +466,13 @@ def page():
         lines = {(d.file.module, number) for _, beliefs in faces for d in beliefs.reached.values() for number, _ in d.above + d.lines if d.file.module == module}
         if lines:
             file = LIBRARY.files[module]
-            marks = " ".join(str(mark) for mark, (_, beliefs) in enumerate(faces, 1) if beliefs.lines(module))
-            rows.append(f"| {str(file.path.relative_to(TOP / 'crates')).replace('/specs/', ' ')} | {len(lines)} | {marks} | {first_words(file)} |")
+            marks = ranges([mark for mark, (_, beliefs) in enumerate(faces, 1) if beliefs.lines(module)])
+            name = str(file.path.relative_to(TOP / "crates")).replace("/specs/", " ")
+            rows.append(file_row(f"| {name} | {len(lines)} | {marks} |", first_words(file)))
     rows += ["", "## Words of the kit", ""]
     for module in sorted(set().union(*(beliefs.kit for _, beliefs in faces))):
-        rows.append(f"- {short(module)}: " + listed(sorted(set().union(*(beliefs.kit.get(module, set()) for _, beliefs in faces)))))
+        words = listed(sorted(set().union(*(beliefs.kit.get(module, set()) for _, beliefs in faces))))
+        rows += textwrap.wrap(f"- {short(module)}: {words}", COLUMNS, subsequent_indent="  ", break_long_words=False, break_on_hyphens=False)
     return "\n".join(rows) + "\n"
 
 
