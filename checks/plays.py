@@ -634,7 +634,7 @@ def in_lines(face, streams, want):
         if "fault" not in refused:
             return want if (refused["of"], status) == ("setup", want[2]) else streams
         kind = next((kind for kind in ("contract", "thread") if kind in refused), "genesis")
-        return "", f"refused {' '.join(filter(None, [kind, refused.get(kind), refused['fault']]))}\n", status
+        return "", f"refused {' '.join(word for word in (kind, refused.get(kind), refused['fault']) if word is not None)}\n", status
     return printed, "".join([line for line in told.splitlines(True) if not line.startswith("note: ")][:1]), status
 
 

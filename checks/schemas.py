@@ -323,7 +323,7 @@ STREAM = TOP / "crates" / "rows_serve"
 REQUESTS = ["run", "trace", "next", "table", "analyse", "play", "read", "bytes", "define", "forget"]
 OF_REQUESTS = {
     "run": "outcome.json", "trace": "answer.json#/definitions/outcomes", "next": "next.json", "table": "table.json", "analyse": "analysis.json",
-    "play": "answer.json#/definitions/played", "bytes": "answer.json#/definitions/bytes", "define": "answer.json#/definitions/truth", "forget": "answer.json#/definitions/truth",
+    "bytes": "answer.json#/definitions/bytes", "define": "answer.json#/definitions/truth", "forget": "answer.json#/definitions/truth",
 }
 OF_READ = {"contract": "contract.json", "state": "state_with_texts.json", "transaction": "transaction.json", "input": "input.json"}
 
