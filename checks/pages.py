@@ -132,7 +132,7 @@ def faults_of_links(counts):
 # ---- names
 
 # What stands for any path, or is made by a command.
-EXCEPTIONS = {"conformance/cases/SUBJECT.jsonl", "out/rlib/CRATE.rlib/toolchain/mir.json", "bindings/out"}
+EXCEPTIONS = {"crates/rows_suite/data/SUBJECT.jsonl", "out/rlib/CRATE.rlib/toolchain/mir.json", "bindings/out"}
 CRATES = {path.name for path in (TOP / "crates").iterdir()}
 
 

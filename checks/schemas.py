@@ -6,7 +6,7 @@ Needs    nothing built. With --count it spoils so many texts of each sort (300).
 Expect   how many texts of each sort have a form, how many have none, and how many are printed; `N texts, none at fault`, status 0; a few seconds.
 Else     the sort, the text, and what each says of it; then status 1.
 
-The texts: those of the examples, the gallery, the tutorial and the plays in crates/rows_commands/data, those of the readings in conformance/cases, each of
+The texts: those of the examples, the gallery, the tutorial and the plays in crates/rows_commands/data, those of the readings in crates/rows_suite/data, each of
 them spoiled in the ways of spoiled.py, and texts with the keys of two forms, of which the first counts. Asked is:
 - that a text which is read has the schema's form, and one that is NoForm has not. Of other faults (a number that isn't whole, a time beyond its range, bytes
   that aren't hexadecimal, an account of 0, a merkleized case) a schema may say either. It doesn't know which names a scenario has.
@@ -34,7 +34,7 @@ import spoiled
 TOP = pathlib.Path(__file__).resolve().parent.parent
 SCHEMAS = TOP / "docs" / "schema"
 DATA = TOP / "crates" / "rows_commands" / "data"
-CASES = TOP / "conformance" / "cases"
+CASES = TOP / "crates" / "rows_suite" / "data"
 WORDS = {"type", "required", "properties", "items", "minItems", "maxItems", "enum", "pattern", "if", "then", "else", "$ref", "definitions", "title", "$schema"}
 
 

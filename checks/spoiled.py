@@ -83,6 +83,8 @@ FROM_NOTHING = "from a start without accounts"
 OUT = re.compile(r"all can be taken out (?:at once|from (0|-?[1-9][0-9]*) on)")
 DOWN = re.compile(r"(?:at most (?P<most>[1-9]\d*) down|never down|down not known)(?P<given> from the given state)?")
 UNREACHED = "never reached: "
+MORE = re.compile(r"and at ([1-9]\d*) more places?")
+REACHED = re.compile(r"at (?P<end>least|most) (?P<number>-?[1-9]\d*)(?P<down> down)?, by this run:")
 ALARM = re.compile(r"(\w+) at (\S+)(?:, by this run:|(, not known))")
 CASE = r"\.when\[(?:0|[1-9]\d*)\]"
 PLACE = re.compile(rf"(?:\.then|\.else|\.timeout_continuation|{CASE}\.then)*(?:\.(?:pay|if|let|assert)|{CASE}\.case\.(?:deposits|notify_if))")
@@ -312,10 +314,10 @@ def fault_beside(runner, line, answer):
         return f"status {answer.status}, and {other.status} for the other reader"
     try:
         if not refused:
-            told = told_of(answer)
-            see(told == told_of(other), "another analysis for the other reader")
-            see(bool(told[0]) == (answer.status == 3), f"status {answer.status} with {len(told[0])} alarms")
-            see_told(json.loads(text_of(files[0]).decode()), *told)
+            told = told_by_json(for_tools)
+            see_same(told, told_by_lines(for_people))
+            see(bool(told.alarms) == (answer.status == 3), f"status {answer.status} with {len(told.alarms)} alarms")
+            see_told(json.loads(text_of(files[0]).decode()), told)
         return None
     except (ValueError, LookupError, TypeError, AttributeError, StopIteration) as fault:
         return f"{type(fault).__name__}: {fault}"
@@ -368,48 +370,96 @@ def see(is_so, what):
         raise ValueError(what)
 
 
+class Told(typing.NamedTuple):
+    """What an analysis says.
+
+    Of each alarm the kind, the place as for people, the run or None, and at how many other places it is told by this one, which is always 0 for tools;
+    of each range the party, the token, the least and the most; whether it says from when on all can be taken out; the parts that no run
+    reaches, as for people; and of each bound that a run reaches the party, the token, its name, the number and the run.
+    """
+
+    alarms: list
+    ranges: list
+    is_out: bool
+    unreached: list
+    bounds: list
+
+
 def told_of(answer):
-    """What an analysis says: of each alarm the kind, the place as for people and the run, of each range the party, the token, the least, the most;
-    whether it says from when on all can be taken out; and the parts that no run reaches, as for people."""
+    return told_by_json(answer) if answer.out.startswith(b'{"alarms"') else told_by_lines(answer)
+
+
+def lines_in(answer):
     text = answer.out.decode()
     see(text.endswith("\n"), "no line feed at the end")
-    if text.startswith('{"alarms"'):
-        return told_by_json(text[:-1])
-    lines, alarms = text.split("\n")[-2::-1], []
-    if lines[0] == FROM_NOTHING:
-        lines.pop(0)
-    losses = []
-    while lines and (found := loss_of(lines[0])):
-        losses.insert(0, found)
-        lines.pop(0)
+    return collections.deque(text.split("\n")[:-1])
+
+
+def told_by_lines(answer):
+    """What an analysis says to people: its lines in their order."""
+    lines, told = lines_in(answer), Told([], [], False, [], [])
+    if lines[0] == CLEAR:
+        lines.popleft()
+    while lines and (found := ALARM.fullmatch(lines[0])):
+        lines.popleft()
+        run = None if found[3] else run_in(lines)
+        more = MORE.fullmatch(lines[0]) if lines else None
+        told.alarms.append((found[1], found[2], run, int(more[1]) if more else 0))
+        if more:
+            lines.popleft()
+    see(told.alarms or answer.out.startswith(CLEAR.encode()), "no alarm and not that it never warns")
+    while lines and lines[0].startswith(UNREACHED):
+        told.unreached.append(lines.popleft().removeprefix(UNREACHED))
+    while lines and (found := named_in(lines[0], RANGE)):
+        lines.popleft()
+        least, most = (None if it is None else int(it) for it in (found[2]["least"], found[2]["most"] or found[2]["only"]))
+        told.ranges.append((*found[:2], least, most))
     is_out = bool(lines and OUT.fullmatch(lines[0]))
     if is_out:
-        lines.pop(0)
+        lines.popleft()
+    losses = []
+    while lines and (found := named_in(lines[0], DOWN)):
+        lines.popleft()
+        losses.append(found[:2])
     see(is_out or not losses, "losses are told, but not from when on all can be taken out")
     see_in_order(losses)
-    is_clear = lines[-1] == CLEAR
-    if is_clear:
-        lines.pop()
-    while lines and not is_clear and (found := ALARM.fullmatch(lines[-1])):
-        lines.pop()
-        run = None if found[3] else []
-        while run is not None and lines and lines[-1].startswith('{"tx_'):
-            run.append(compact(lines.pop()))
-        alarms.append((found[1], found[2], run))
-    see(alarms or is_clear, "no alarm and not that it never warns")
-    unreached = []
-    while lines and lines[-1].startswith(UNREACHED):
-        unreached.append(lines.pop()[len(UNREACHED):])
-    return alarms, [range_of(it) for it in reversed(lines)], is_out, unreached
+    if lines and lines[0] == FROM_NOTHING:
+        lines.popleft()
+    while lines and (found := named_in(lines[0], REACHED)):
+        lines.popleft()
+        told.bounds.append((*found[:2], "down" if found[2]["down"] else found[2]["end"], int(found[2]["number"]), run_in(lines)))
+    see(not lines, f"a line that there isn't, or not there: {lines and lines[0][:200]}")
+    return told._replace(is_out=is_out)
 
 
-def loss_of(line):
-    """The party and the token of a line that tells what is lost, or None."""
+def run_in(lines):
+    """The transactions of a run, which stand before other lines."""
+    run = []
+    while lines and lines[0].startswith('{"tx_'):
+        run.append(compact(lines.popleft()))
+    return run
+
+
+def named_in(line, pattern):
+    """The party and the token of a line, and what is said of them in this way; or None."""
     if not line.startswith(('{"address":', '{"role_token":')):
         return None
     _, one = json.JSONDecoder().raw_decode(line)
+    see(line[one] == " ", f"no blank behind a party: {line[:200]}")
     _, two = json.JSONDecoder().raw_decode(line, one + 1)
-    return (compact(line[:one]), compact(line[one + 1 : two])) if line[two] == " " and DOWN.fullmatch(line, two + 1) else None
+    found = pattern.fullmatch(line, two + 1)
+    return (compact(line[:one]), compact(line[one + 1 : two]), found) if line[two] == " " and found else None
+
+
+def see_same(told, lines):
+    """Sees that an analysis says the same to people as to tools: but of some alarms only at how many other places there is such a one."""
+    heads = [it[:3] for it in lines.alarms]
+    rest = iter(it[:3] for it in told.alarms)
+    see(all(it in rest for it in heads), "alarms for people that aren't those for tools, in their order")
+    counts = collections.Counter(it[0] for it in told.alarms)
+    counts.subtract({kind: sum(1 + it[3] for it in lines.alarms if it[0] == kind) for kind in counts})
+    see(not any(counts.values()), f"more alarms, or fewer, for people: {counts}")
+    see(told[1:] == lines[1:], f"another analysis for people: {told[1:]} and {lines[1:]}"[:400])
 
 
 def see_in_order(losses):
@@ -418,28 +468,26 @@ def see_in_order(losses):
     see(order == sorted(set(order)), "losses out of order")
 
 
-def range_of(line):
-    _, one = json.JSONDecoder().raw_decode(line)
-    _, two = json.JSONDecoder().raw_decode(line, one + 1)
-    found = RANGE.fullmatch(line, two + 1)
-    see(found and line[one] == line[two] == " ", f"no line of a range: {line}")
-    least, most = (None if it is None else int(it) for it in (found["least"], found["most"] or found["only"]))
-    return compact(line[:one]), compact(line[one + 1 : two]), least, most
-
-
-def told_by_json(text):
-    told = compact(text)
+def told_by_json(answer):
+    """What an analysis says to tools."""
+    lines = lines_in(answer)
+    see(len(lines) == 1, f"{len(lines)} lines for tools")
+    told = compact(lines[0])
     see(list(told) == ["alarms", "down", "out_from", "ranges", "unreached"], f"keys {list(told)}")
     number_of(told["out_from"])
     see((told["down"] is None) == (told["out_from"] is None), "losses are told, or not, where from when on all can be taken out isn't, or is")
-    for it in told["down"] or []:
-        see(list(it) == ["most", "party", "token"] and (number_of(it["most"]) or 0) >= 0, f"no loss: {it}")
-    see_in_order([(it["party"], it["token"]) for it in told["down"] or []])
-    for keys, some in (["kind", "place", "run"], told["alarms"]), (["least", "most", "party", "token"], told["ranges"]):
-        see(all(list(it) == keys for it in some), f"keys other than {keys}")
-    alarms = [(it["kind"], place_of(it["place"]), it["run"]) for it in told["alarms"]]
+    keys = {"alarms": ["kind", "place", "run"], "down": ["most", "party", "run", "token"], "ranges": ["least", "least_run", "most", "most_run", "party", "token"]}
+    for name, some in keys.items():
+        see(all(list(it) == some for it in told[name] or []), f"keys other than {some}")
+    down = told["down"] or []
+    see(all((number_of(it["most"]) or 0) >= 0 for it in down), "a loss below 0")
+    see_in_order([(it["party"], it["token"]) for it in down])
+    alarms = [(it["kind"], place_of(it["place"]), it["run"], 0) for it in told["alarms"]]
     ranges = [(it["party"], it["token"], number_of(it["least"]), number_of(it["most"])) for it in told["ranges"]]
-    return alarms, ranges, told["out_from"] is not None, [place_of(it) for it in told["unreached"]]
+    bounds = [(it["party"], it["token"], end, number_of(it[end]), it[f"{end}_run"])
+              for it in told["ranges"] for end in ("least", "most") if it[f"{end}_run"] is not None]
+    bounds += [(it["party"], it["token"], "down", number_of(it["most"]), it["run"]) for it in down if it["run"] is not None]
+    return Told(alarms, ranges, told["out_from"] is not None, [place_of(it) for it in told["unreached"]], bounds)
 
 
 def place_of(keys):
@@ -467,17 +515,19 @@ def in_order(pairs):
     return dict(pairs)
 
 
-def see_told(contract, alarms, ranges, is_out, unreached):
+def see_told(contract, told):
     """Sees that what an analysis says may be said of the contract of a text: the places, the runs' forms, the order, when all can be taken out."""
+    alarms, ranges, is_out, unreached, bounds = told
+    see(all(number and run and all(map(is_transaction, run)) for *_, number, run in bounds), "no run to a bound, or one to 0")
     order = []
-    for kind, place, run in alarms:
+    for kind, place, run, _ in alarms:
         steps = re.findall(r"\w+", place)
         see(kind in ALARMS and PLACE.fullmatch(place) and steps[-1] in ALARMS[kind], f"no alarm: {kind} at {place}")
         see(form_at(contract, steps) == steps[-1], f"{place} isn't in the contract")
         see(run is None or run and all(map(is_transaction, run)), f"no run to {kind} at {place}: {run}")
         order.append((order_of(steps), list(ALARMS).index(kind)))
     see(order == sorted(set(order)), "alarms out of order")
-    see(is_out == all(kind != "Leaves128" for kind, _, _ in alarms), "when all can be taken out is told, or not, whatever leaves 128 bits")
+    see(is_out == all(kind != "Leaves128" for kind, *_ in alarms), "when all can be taken out is told, or not, whatever leaves 128 bits")
     parts = []
     for place in unreached:
         steps = re.findall(r"\w+", place) + [""]
@@ -549,7 +599,7 @@ def kinds_of(word, answer):
     if word == "rows":
         return [f"{word}: {it[1]}" for it in map(VERDICT.match, answer.out.decode("utf-8", "replace").split("\n")) if it]
     if word == "analyse" and answer.status not in (1, 4):
-        return [f"{word}: {kind} {'not known' if run is None else 'with a run'}" for kind, _, run in told_of(answer)[0]] or [f"{word}: never warns"]
+        return [f"{word}: {kind} {'not known' if run is None else 'with a run'}" for kind, _, run, _ in told_of(answer).alarms] or [f"{word}: never warns"]
     if answer.status == 0:
         return [f"{word}: an answer"]
     return [f"{word}: {' '.join(filter(NAME.fullmatch, refused_by(answer).decode('utf-8', 'replace').split()))}"]

@@ -1,7 +1,7 @@
 #!/usr/bin/env python3
 """Makes the suite's cases: those written by hand, whose answers must be the interpreter's, and random ones until each subject has its number.
 
-Usage    make.py             writes cases/SUBJECT.jsonl, and the arguments of the row program `rows_suite` and what it prints
+Usage    make.py             writes crates/rows_suite/data/SUBJECT.jsonl, and the arguments of the row program `rows_suite` and what it prints
          make.py --check     sees that the files are as it would write them
 Needs    nothing built; some minutes.
 Expect   a line for each subject: its cases, how many of them are by hand, how many paths are new, and the bytes.

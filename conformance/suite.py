@@ -2,7 +2,7 @@
 
 Usage    the scripts beside it import it.
 
-A case is a line of cases/SUBJECT.jsonl, an object with `subject`, `name`, `rule` (a name of rules.py), `choices` (names of its CHOICES), `ask` and
+A case is a line of crates/rows_suite/data/SUBJECT.jsonl, an object with `subject`, `name`, `rule` (a name of rules.py), `choices` (names of its CHOICES), `ask` and
 `answer`. Tabs stand around the last two, so a line has five parts for whoever doesn't read JSON. `ask` is a request as it is sent; its id is the
 number of the line. Or it is the list of the pieces of a line: texts, bytes by their numbers, and `[count, text]` for a text so many times.
 
