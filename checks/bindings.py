@@ -1,8 +1,8 @@
 #!/usr/bin/env python3
 """Asks the library the same as the program: by C and by Haskell, linked with the archive, and by Python, which loads the shared object. The requests are
 the steps of all examples, a long one, and random ones by `serve.py` beside this file; as many again, with names that come and go, are asked in one session.
-Each is asked of a stream of `marlowe serve` too; the bytes must be the same. Python asks by four threads as well, and C under valgrind. Then the examples of
-bindings/ run the escrow, and print the same bytes.
+Each is asked of a stream of `marlowe serve` too; the bytes must be the same. Python asks by four threads as well, and C under valgrind, and the deepest
+contracts with 4 MiB of stack. Then the examples of bindings/ run the escrow, and print the same bytes.
 
 Needs    (cd crates/marlowe && rt run -- --version), and cc, ar and rt for bindings/build.sh; ghc for Haskell, and valgrind
 Usage    bindings.py [--requests N] [--seed S] [--built] [PROGRAM WORDS..]
@@ -14,6 +14,7 @@ Else     `differs` with the request and both answers, and status 1
 import json
 import os
 import re
+import resource
 import subprocess
 import sys
 import tempfile
@@ -27,9 +28,10 @@ OUT = os.path.join(BINDINGS, "out")
 EXAMPLES = os.path.join(HERE, "..", "crates", "rows_commands", "data", "examples")
 ESCROW = ["escrow_1_the_buyer_deposits", "escrow_2_the_buyer_releases"]
 PARTS = ("contract", "state", "transaction")
-THREADS = 4
+THREADS, STACK = 4, 4 * 1_048_576
 sys.path[:0] = [HERE, os.path.join(BINDINGS, "python")]
 import compare
+import depth
 import serve
 from marlowe import Marlowe, Session
 
@@ -82,8 +84,10 @@ def differs(line, want, got):
     sys.exit(f"differs\nasked {line[:2000]}\nwant  {want[:2000]}\ngot   {got[:2000]}")
 
 
-def run(words, text=b""):
-    done = subprocess.run(words, input=text, capture_output=True)
+def run(words, text=b"", stack=None):
+    """What a program prints, which may have so little stack."""
+    limited = (lambda: resource.setrlimit(resource.RLIMIT_STACK, (stack, stack))) if stack else None
+    done = subprocess.run(words, input=text, capture_output=True, preexec_fn=limited)
     if done.returncode != 0:
         sys.exit(f"differs: {words[0]} ended with {done.returncode}\n{done.stdout.decode()[-999:]}{done.stderr.decode()[-999:]}")
     return done.stdout
@@ -158,6 +162,19 @@ def long_line():
     return json.dumps({"id": "long", "read": {"contract": contract}}).encode()
 
 
+def deep_lines():
+    """Each request about a contract, for those that nest deepest, of each sort."""
+    for _, before, opens, inside, closes, behind, _ in depth.SORTS:
+        levels = max(n for n in range(128) if nesting(json.loads(before + opens * n + inside + closes * n + behind)) <= 127)
+        contract = before + opens * levels + inside + closes * levels + behind
+        yield f'{{"run":{{"contract":{contract},"transaction":{{"tx_interval":{{"from":0,"to":0}},"tx_inputs":[]}}}}}}'.encode()
+        yield from (f'{{"{word}":{{"contract":{contract},"notes":true}}}}'.encode() for word in ("trace", "next", "table", "analyse", "read", "bytes"))
+
+
+def nesting(data):
+    return 1 + max(map(nesting, data.values() if isinstance(data, dict) else data), default=0) if isinstance(data, (dict, list)) else 0
+
+
 def first_line(answer):
     """An answer in which a line's number is 1, as it is of each request of the library."""
     return re.sub(rb'(^\{"id":.*,"refused":\{"of":"line","name":"\w+","line":)\d+', rb"\g<1>1", answer)
@@ -219,6 +236,8 @@ def hold(folder, words, count, seed):
     compared(f"{THREADS} threads of Python", lines, want, by_threads(lines))
     named = named_lines(count, seed)
     asked(made, ["session"], named, answers_of(words, named))
+    deep = list(deep_lines())
+    compared("C with less stack", deep, answers_of(words, deep), run([made["C"]], b"\n".join(deep) + b"\n", STACK).splitlines(keepends=True))
     print("valgrind: no error, nothing lost" if which("valgrind") else "valgrind is left out: it isn't there")
     escrow(folder, b"".join(want[steps.index(step)] for step in ESCROW))
 

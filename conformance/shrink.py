@@ -68,9 +68,11 @@ def smaller(sort, data):
 def nearer_to_0(number):
     """Whole numbers between a number and 0, in halves of the way: 0 first, and last the one beside the number."""
     step, sign = abs(number), 1 if number > 0 else -1
-    while step:
+    while step > 1:
         yield number - sign * step
-        step //= 2
+        step = (step + 1) // 2
+    if step:
+        yield number - sign
 
 
 def smaller_lists(sort, data):
