@@ -1,5 +1,5 @@
 -- What is told, by what code finds.
-use Rattle.std.proofs.Common.{◌≡◌, ℕ, List, [], length, Bool, true, false, cond, Some, Ok, Err, refl, sym, subst, ap, ◌∙◌}
+use Rattle.std.proofs.Common.{◌≡◌, ℕ, List, [], length, Bool, true, false, cond, Option, Some, None, Ok, Err, refl, sym, subst, ap, ◌∙◌}
 use Rattle.std.specs.Prelude.{nat_lt}
 use Rattle.std.specs.Str.{is_utf8, IsUtf8}
 use Rattle.std.proofs.lemmas.Str.{IsUtf8-from_is_utf8}
@@ -21,8 +21,8 @@ use Rattle.told_parts.specs.Told.{Told}
 use Rattle.explanations.specs.declared.how.How.{How}
 use Rattle.told_parts.specs.Lines.{beside}
 use Rattle.explanations.specs.Indexes.{indexes_of, keys_in}
-use Rattle.explanations.specs.Explained.{IsFirst, IsToldAt, IsToldBy, IsToldScenario, names_there, spelled, StandsAt, token_behind, told_at}
-use Rattle.explanations.specs.ExplainedSupport.{Begins, place_of}
+use Rattle.explanations.specs.Explained.{ExplainsIfAny, IsFirst, IsTold, IsToldAt, IsToldBy, IsToldScenario, ReadingIsTold, names_there, spelled, StandsAt, token_behind, told_at}
+use Rattle.explanations.specs.ExplainedSupport.{Begins, IsToldIfAny, place_of}
 
 -- a text that is read is UTF-8
 read_is_utf8_by : (n : ℕ) (text : List ℕ) (d : Data) (long utf8 : Bool) → is_utf8 text ≡ utf8 → cond long (Err TooLong) (cond utf8 (json_or_not (read_within n text)) (Err NotJson)) ≡ Ok d → IsUtf8 text
@@ -63,6 +63,25 @@ first_told n text json path index indexes spot token utf8 begins found =
 -- what is told of a place, of all that is read
 pub place_told : (how : How) (file text : List ℕ) (sort : Sort) (d : Data) (at : Place) (written : List ℕ) → StopsAt sort d at → IsToldAt how file text d at [] written → IsToldBy how file text sort d written (fault_as sort d)
 place_told how file text sort d at written stops told = subst (IsToldBy how file text sort d written) (sym stops.whole) (at, stops, told)
+
+-- .. by whether there is one
+pub any_told : (how : How) (file text : List ℕ) (sort : Sort) (d : Data) (written : List ℕ) → IsTold how file text sort d written → IsToldBy how file text sort d written (fault_as sort d)
+any_told how file text sort d written told = place_told how file text sort d told.0 written told.1 told.2
+
+pub none_told : (how : How) (file text : List ℕ) (sort : Sort) (d : Data) (written : List ℕ) → fault_as sort d ≡ None → written ≡ [] → IsToldBy how file text sort d written (fault_as sort d)
+none_told how file text sort d written is none = subst (IsToldBy how file text sort d written) (sym is) none
+
+-- what is told of a value explains the text that is read as it
+pub value_explained : (how : How) (file text : List ℕ) (sort : Sort) (d : Data) (found : Option (List ℕ)) → json_within how.depth text ≡ Ok d
+    → IsToldIfAny how file text sort d found → ExplainsIfAny how file text sort d found
+value_explained how file text sort d None reads told = told
+value_explained how file text sort d (Some written) reads told = (
+  (λ is. absurd (no_fault (told.1.whole) is)),
+  subst (ReadingIsTold how file text sort written) (sym reads) (any_told how file text sort d written told),
+)
+  where
+    no_fault : fault_as sort d ≡ Some told.0.fault → fault_as sort d ≡ None → ⊥
+    no_fault is none = cc
 
 pub scenario_told : (how : How) (file text : List ℕ) (d : Data) (at : Place) (written : List ℕ) → StopsIn d at → IsToldAt how file text d at (names_there d at.sort) written
     → IsToldScenario how file text d written (fault_of (scenario d))

@@ -1,5 +1,5 @@
 -- What is told of a text that isn't read as one of a sort.
-use Rattle.std.specs.Prelude.{◌≡◌, ◌⊎◌, ℕ, List, [], drop, length, Option, Some, None, Ok, Err}
+use Rattle.std.specs.Prelude.{◌≡◌, ◌≢◌, ◌⊎◌, ℕ, List, [], drop, length, Option, Some, None, Ok, Err}
 use Rattle.json.specs.Token.{Token}
 use Rattle.json.specs.Lex.{tokens}
 use Rattle.serde_json.specs.Data.{Data}
@@ -120,6 +120,11 @@ ReadingIsTold how file text sort written (Err fault) = FaultIsTold how file text
 -- what is written explains why a text isn't read as one of a sort
 abbrev pub Explains : How → List ℕ → List ℕ → Sort → List ℕ → Type 0
 Explains how file text sort written = ReadingIsTold how file text sort written (json_within how.depth text)
+
+-- of a text that is JSON what is written explains why it isn't read, or it is read and nothing is written
+abbrev pub ExplainsIfAny : How → List ℕ → List ℕ → Sort → Data → Option (List ℕ) → Type 0
+ExplainsIfAny how file text sort d None = fault_as sort d ≡ None
+ExplainsIfAny how file text sort d (Some written) = (fault_as sort d ≢ None) × Explains how file text sort written
 
 -- ---- a scenario
 

@@ -1,14 +1,14 @@
 //! From the name and the text of a file to what is told of it.
-ghost use Rattle.std.specs.Prelude.{◌≡◌, ◌≢◌, Ok, Err, IfOk, map};
+ghost use Rattle.std.specs.Prelude.{◌≡◌, ◌≢◌, Ok, Err, IfOk, map, option_map};
 ghost use Rattle.std.specs.Str.{IsUtf8};
 ghost use Rattle.json.specs.Reads.{token_of};
 ghost use Rattle.json_tree.specs.View.{view};
 ghost use Rattle.json_read_names.specs.ReadsText.{json_within};
 ghost use Rattle.json_read_scenarios.specs.ReadsScenario.{scenario};
 ghost use Rattle.json_stops.specs.Stops.{fault_as, fault_of};
-ghost use Rattle.explanations.specs.Explained.{Explains, ExplainsScenario, FaultIsTold, IsFirst, IsToldAt, IsToldBy, IsToldScenario, names_there, spelled};
+ghost use Rattle.explanations.specs.Explained.{Explains, ExplainsIfAny, ExplainsScenario, FaultIsTold, IsFirst, IsToldAt, IsToldBy, IsToldScenario, names_there, spelled};
 ghost use Rattle.told_parts.specs.Told.{seen};
-ghost use Rattle.explanations.specs.ExplainedSupport.{Begins, place_of};
+ghost use Rattle.explanations.specs.ExplainedSupport.{Begins, IsToldIfAny, place_of};
 
 use crate::how::How;
 use crate::indexes::{indexes_of, keys_in};
@@ -48,7 +48,7 @@ pub fn explained(
     }
 }
 
-/// The same of a text that has been read as JSON, by its value: so it isn't read again.
+/// The same of a text that has been read as JSON, by its value: so it isn't read again. None where it is read as one of the sort.
 pub fn explained_value(
     alloc: Global,
     file: &str,
@@ -56,11 +56,12 @@ pub fn explained_value(
     sort: Sort,
     json: &Json<'_>,
     how: How,
-) -> Result<Vec<u8>, Memory>
+) -> Result<Option<Vec<u8>>, Memory>
     requires { json_within how.depth text.now ≡ Ok (view json.now) }
-    ensures { IfOk result (λ written. Explains how file.now text.now sort written.items) }
+    ensures { IfOk result (λ found.
+        ExplainsIfAny how file.now text.now sort (view json.now) (option_map (λ written. written.items) found)) }
 {
-    told_json(alloc, file, text, sort, json, how)
+    told_value(alloc, file, text, sort, json, how)
 }
 
 /// The same of a text that has been refused as JSON, by its fault: it is told alike of each sort.
@@ -113,10 +114,33 @@ fn told_json(
     ensures { IfOk result (λ written.
         IsToldBy how file.now text.now sort (view json.now) written.items (fault_as sort (view json.now))) }
 {
+    let found = told_value(alloc, file, text, sort, json, how)?;
+    match found {
+        Some(written) => Ok(written),
+        None => Ok(Vec::new(alloc)),
+    }
+}
+
+// What is told of where reading stops, if it does.
+fn told_value(
+    alloc: Global,
+    file: &str,
+    text: &[u8],
+    sort: Sort,
+    json: &Json<'_>,
+    how: How,
+) -> Result<Option<Vec<u8>>, Memory>
+    requires { IsUtf8 text.now }
+    ensures { IfOk result (λ found.
+        IsToldIfAny how file.now text.now sort (view json.now) (option_map (λ written. written.items) found)) }
+{
     let found = first_stop(alloc, sort, json)?;
     match found {
-        Some((stop, part)) => told_stop(alloc, file, text, json, &stop, part, &[], how),
-        None => Ok(Vec::new(alloc)),
+        Some((stop, part)) => {
+            let written = told_stop(alloc, file, text, json, &stop, part, &[], how)?;
+            Ok(Some(written))
+        }
+        None => Ok(None),
     }
 }
 

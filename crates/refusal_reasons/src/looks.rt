@@ -6,6 +6,7 @@ ghost use Rattle.json_tree.specs.View.{view};
 ghost use Rattle.json_read_names.specs.Parts.{Reading};
 ghost use Rattle.json_read_names.specs.ReadsText.{json_within, of_text, of_text_within};
 ghost use Rattle.json_forms.specs.declared.sort.Sort.{Sort};
+ghost use Rattle.json_stops.specs.Stops.{fault_as, fault_of};
 ghost use Rattle.refusal_reasons.specs.Reasons.{TellsFlat, TellsText};
 ghost use Rattle.refusal_reasons.specs.LooksSupport.{IsLook};
 
@@ -32,8 +33,11 @@ pub(crate) trait TextReader<X> {
     /// What a JSON value stands for.
     ghost reading: { Self → Data → Reading X };
 
-    /// The sort of a text, by which it is told of.
+    /// The sort by which a text that isn't read is told of.
     ghost sort: { Self → Sort };
+
+    /// A value has the same fault as one of that sort.
+    ghost same: { (reader : Self) (d : Data) → fault_as (sort reader) d ≡ fault_of (reading reader d) };
 
     fn sort(&self) -> Sort
         ensures { result ≡ sort self.now };
@@ -93,13 +97,13 @@ fn value_look<X: Drop, R: TextReader<X>>(
     ensures { IfOk result (IsLook (of_text_within how.depth (R.reading reader.now) source.entry.text.now)
         (TellsText how source.entry.path.now source.entry.text.now (R.sort reader.now))) }
 {
-    match reader.read(alloc, json) {
-        Ok(item) => Ok(Look::Read(item)),
-        Err(JsonFault::Memory) => Err(AllocError),
-        Err(_) => {
-            let sort = reader.sort();
-            let written = explained_value(alloc, source.path, source.text, sort, json, how)?;
-            Ok(Look::Told(written))
-        }
+    let sort = reader.sort();
+    let found = explained_value(alloc, source.path, source.text, sort, json, how)?;
+    match found {
+        Some(written) => Ok(Look::Told(written)),
+        None => match reader.read(alloc, json) {
+            Ok(item) => Ok(Look::Read(item)),
+            Err(_) => Err(AllocError),
+        },
     }
 }

@@ -1,5 +1,5 @@
 //! What reads contracts, states and transactions.
-ghost use Rattle.std.specs.Prelude.{◌≡◌};
+ghost use Rattle.std.specs.Prelude.{◌≡◌, refl};
 ghost use Rattle.collections.specs.Answers.{Aside};
 ghost use Rattle.json_tree.specs.View.{view};
 ghost use Rattle.json_read_contracts.specs.ReadsContract as contract_reads;
@@ -7,6 +7,7 @@ ghost use Rattle.json_read_inputs.specs.ReadsInput as input_reads;
 ghost use Rattle.json_forms.specs.declared.sort.Sort.TheVariants as sorts;
 ghost use Rattle.marlowe_run.specs.Start.{state_reading};
 ghost use Rattle.refusal_reasons.specs.Reasons.{numbers_of};
+ghost use Rattle.refusal_reasons.specs.LooksSupport.{state_sort};
 
 use crate::looks::TextReader;
 use contract::{Contract, State, Transaction};
@@ -26,6 +27,8 @@ impl TextReader<Contract> for Contracts {
     ghost reading = { λ _. contract_reads.contract };
 
     ghost sort = { λ _. sorts.Contract };
+
+    ghost same = { λ _ d. refl };
 
     fn sort(&self) -> Sort {
         Sort::Contract
@@ -47,6 +50,8 @@ impl TextReader<State> for States {
     ghost reading = { λ states. state_reading states.texts };
 
     ghost sort = { λ states. sorts.State (numbers_of states.texts) };
+
+    ghost same = { λ states. state_sort states.texts };
 
     fn sort(&self) -> Sort {
         if self.texts {
@@ -73,6 +78,8 @@ impl TextReader<Transaction> for Transactions {
     ghost reading = { λ _. input_reads.transaction };
 
     ghost sort = { λ _. sorts.Transaction };
+
+    ghost same = { λ _ d. refl };
 
     fn sort(&self) -> Sort {
         Sort::Transaction

@@ -1,12 +1,13 @@
-//! Streams of requests, and their answers: the lines of `stdin`, whose answers are the first lines of `stdout`; a line of more than 4 MiB, and one
-//! behind it; a thousand names, and the answer to one more; lines that come a byte at a time, the last without a line feed; these once more by a
-//! reader that fails, and to a writer that fails. A line behind each stream tells how it ended.
+//! Streams of requests, and their answers: the lines of `stdin`, whose answers are the first lines of `stdout`; a line of more than 4 MiB, and a
+//! play behind it that nobody plays; a thousand names, and the answer to one more; lines that come a byte at a time, the last without a line feed; these once more by a reader that fails, and to
+//! a writer that fails. A line behind each stream tells how it ended.
 #![tactic(auto)]
 
 use definitions::Definitions;
 use marlowe_io::{ReaderSource, ShortSink, ShortSource, Sink, Source, emit, output};
 use marlowe_run::Readable;
-use serve::{Ended, answer, serve};
+use request_plays::InTurn;
+use serve::{Ended, NoPlayer, Player, answer, serve_with};
 use std::alloc::{AllocError, Global};
 use std::process::ExitCode;
 
@@ -21,7 +22,8 @@ fn main(rt: HostRuntime) -> ExitCode {
     let out = rt.stdout();
     let mut answers = output(&out);
     let mut requests = ReaderSource::new(rt.reader());
-    stream(rt.alloc(), &mut requests, &mut answers);
+    let player = InTurn { rt: &rt };
+    stream(rt.alloc(), &player, &mut requests, &mut answers);
     if long_line(rt.alloc(), &mut answers).is_err() {
         return ExitCode::from(1);
     }
@@ -31,18 +33,28 @@ fn main(rt: HostRuntime) -> ExitCode {
     few_lines(rt.alloc(), &mut answers, 1_000);
     few_lines(rt.alloc(), &mut answers, 40);
     let mut short = ShortSink::new(output(&out), 10, 2);
-    let ended = stream(rt.alloc(), &mut ReaderSource::new(FEW), &mut short);
+    let ended = stream(
+        rt.alloc(),
+        &NoPlayer,
+        &mut ReaderSource::new(FEW),
+        &mut short,
+    );
     tell(&mut answers, b"\n");
     tell(&mut answers, word(ended));
     ExitCode::from(0)
 }
 
-// A line of more than 4 MiB, and one behind it.
+// A line of more than 4 MiB, and a play behind it.
 fn long_line<K: Sink>(alloc: Global, answers: &mut K) -> Result<(), AllocError> {
     let mut long = Vec::new(alloc);
     long.resize(4_194_305, b'x')?;
-    long.extend_from_slice(b"\n{\"id\":2,\"forget\":\"x\"}\n")?;
-    stream(alloc, &mut ReaderSource::new(long.as_slice()), answers);
+    long.extend_from_slice(b"\n{\"id\":2,\"play\":{}}\n")?;
+    stream(
+        alloc,
+        &NoPlayer,
+        &mut ReaderSource::new(long.as_slice()),
+        answers,
+    );
     Ok(())
 }
 
@@ -61,15 +73,20 @@ fn one_name_more<K: Sink>(alloc: Global, answers: &mut K) -> Result<(), AllocErr
 // Few lines, of which a byte comes at a read. So many reads succeed.
 fn few_lines<K: Sink>(alloc: Global, answers: &mut K, reads: usize) {
     let mut source = ShortSource::new(ReaderSource::new(FEW), 1, reads);
-    stream(alloc, &mut source, answers);
+    stream(alloc, &NoPlayer, &mut source, answers);
 }
 
 // The answers to requests, and how the stream ended.
-fn stream<S: Source, K: Sink>(alloc: Global, requests: &mut S, answers: &mut K) -> Ended {
+fn stream<P: Player, S: Source, K: Sink>(
+    alloc: Global,
+    player: &P,
+    requests: &mut S,
+    answers: &mut K,
+) -> Ended {
     if requests.failed() || answers.failed() {
         return Ended::Memory;
     }
-    let ended = serve(alloc, READABLE, requests, answers);
+    let ended = serve_with(alloc, player, READABLE, requests, answers);
     tell(answers, word(ended));
     ended
 }

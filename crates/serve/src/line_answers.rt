@@ -131,7 +131,7 @@ fn request_answer<P: Player>(
     body: &Json<'_>,
     id: &[u8],
 ) -> Result<Vec<u8>, Memory>
-    requires { AllFit (view body.now) }
+    requires fits { AllFit (view body.now) }
     ensures answer { IfOk result (λ text. TellsAsked P.tells readable definitions.old bytes kind (view body.now) id.now text.items definitions.new) }
     ensures err { OnErr result (definitions.new ≡ definitions.old) }
 {

@@ -1,5 +1,6 @@
 //! Who plays the scenarios of requests.
 ghost use Rattle.std.specs.Prelude.{ℕ, List, Result, IfOk};
+ghost use Rattle.std.specs.Thread.{IsSync};
 ghost use Rattle.json_tree.specs.View.{view};
 ghost use Rattle.marlowe_run.specs.declared.readable.Readable.{Readable};
 ghost use Rattle.serde_json.specs.Data.{Data};
@@ -23,11 +24,15 @@ pub enum PlayAnswer {
 /// Who plays the scenarios of requests. Of a player the stream asks nothing but that a call tells what may be told of its request: a
 /// call that waits is waited for.
 pub trait Player {
+    /// What it plays on, which threads may share.
+    type Runtime: Sync;
+
     /// What may be told of what stands at `play`: lines, or members.
     ghost tells: { Readable → Data → Result (List ℕ) (List ℕ) → Type 0 };
 
     /// Plays what stands at `play`. Only a growth that was refused gives `Memory`.
     fn play(&self, alloc: Global, readable: Readable, body: &Json<'_>) -> Result<PlayAnswer, Memory>
+        requires { IsSync Self.Runtime.row }
         ensures { IfOk result (λ answer. tells readable (view body.now) (answer_seen answer)) };
 }
 
@@ -36,6 +41,8 @@ pub trait Player {
 pub struct NoPlayer;
 
 impl Player for NoPlayer {
+    type Runtime = ();
+
     ghost tells = { no_play };
 
     fn play(
