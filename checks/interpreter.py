@@ -91,9 +91,10 @@ class Transaction:
     """One transaction on its way: the fixed interval, the state, and the warnings, payments and rules so far."""
 
     def __init__(self, state, interval, taken=None):
-        self.accounts = {(party(p), token(t)): n for (p, t), n in state["accounts"]}
-        self.choices = {choice_id(i): n for i, n in state["choices"]}
-        self.bound = dict(state["boundValues"])
+        # a number that JSON doesn't have is a text of its digits
+        self.accounts = {(party(p), token(t)): int(n) for (p, t), n in state["accounts"]}
+        self.choices = {choice_id(i): int(n) for i, n in state["choices"]}
+        self.bound = {name: int(n) for name, n in state["boundValues"]}
         self.warnings, self.payments, self.turned = [], [], False
         self.taken = [] if taken is None else taken
         if interval["to"] < interval["from"]:
