@@ -1,4 +1,4 @@
-"""Judges the transactions of `rows_chain/data/transactions` by the rules of docs/ledger.md, apart from the programs, and compares that with
+"""Judges the transactions of `rows_chain/data/transactions` by the rules of docs/ledger_rules.md, apart from the programs, and compares that with
 the verdicts in those of these files whose rows are checks.
 
 Needs    interpreter.py, ledger.py and transactions.py beside it; nothing built.

@@ -11,7 +11,8 @@ Expect   `N files and M commands as written, L links lead somewhere, W names are
          the section has named crates before, from one of these. Of `crate::item` the crate has the item, and each other word in backquotes of
          CONTRIBUTING comes up in some file. README's table has the layers of crates.txt, and docs/layers.md names each crate. In crates.txt no crate
          stands on a later one. The toolchain's line is that of `rt version`, where `rt` is there. No sentence has more than 30 words, tables and what
-         is in backquotes aside, README has at most 120 lines and DECISIONS 200; these two, BELIEVE, PROVED and PROOF_COST have at most 160 columns.
+         is in backquotes aside, README has at most 120 lines and DECISIONS 200; the pages in NARROW have at most 160 columns. Those in FIRST are read first, in half an hour: they
+         have at most 6,900 words, at 230 a minute.
 Else     a line for each fault, and status 1."""
 import functools
 import itertools
@@ -200,7 +201,9 @@ def faults_of_sentences():
 # ---- sizes
 
 MOST_LINES, MOST_COLUMNS = {"README.md": 120, "docs/DECISIONS.md": 200}, 160
-NARROW = ("README.md", "docs/BELIEVE.md", "docs/DECISIONS.md", "docs/PROVED.md", "docs/PROOF_COST.md")
+FIRST, MOST_WORDS_OF_FIRST = ("README.md", "docs/semantics.md", "docs/ledger.md", "docs/analysis.md", "docs/PROVED.md"), 6900
+NARROW = (*FIRST, "docs/BELIEVE.md", "docs/DECISIONS.md", "docs/PROOF_COST.md", "docs/clauses.md", "docs/tested.md", "docs/semantics_code.md",
+          "docs/ledger_rules.md", "docs/ledger_chain.md", "docs/analysis_lines.md", "docs/analysis_limits.md")
 
 
 def faults_of_sizes():
@@ -209,6 +212,9 @@ def faults_of_sizes():
         yield from (f"{name}:{number}: over {MOST_COLUMNS} columns" for number, line in enumerate(lines, 1) if len(line) > MOST_COLUMNS)
         if len(lines) > MOST_LINES.get(name, len(lines)):
             yield f"{name}: over {MOST_LINES[name]} lines"
+    words = sum(len((TOP / name).read_text().split()) for name in FIRST)
+    if words > MOST_WORDS_OF_FIRST:
+        yield f"{', '.join(FIRST)}: {words} words together, over {MOST_WORDS_OF_FIRST}"
 
 
 # ---- layers

@@ -189,7 +189,7 @@ LEFT = {
     "call evaluation::value": EXACT,
     "call evaluation::holds": EXACT,
     "call semantics::matching_case": EXACT,
-    "call contract_json::read_state_with_texts": "no command and no row calls it yet; docs/PROVED.md says so",
+    "call contract_json::read_state_with_texts": "each command of a row with `--text-numbers` reads a state by it",
     "call states::State::set_money": "each payment and each deposit of a run that a row prints makes it",
     "call states::State::set_choice": "each choice of a run that a row prints makes it",
     "call states::State::set_bound": "each Let of a run that a row prints makes it",

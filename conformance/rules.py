@@ -5,7 +5,7 @@ Usage    the scripts beside it import it; checks/suite.py looks whether each pag
 A rule has the subject to which it belongs, what it says, the page and some words of the page. The rules that checks/interpreter.py takes have
 the same names there.
 """
-SEMANTICS, FORMATS, DECISIONS, PAGE = "docs/semantics.md", "docs/formats.md", "docs/DECISIONS.md", "docs/conformance.md"
+SEMANTICS, CLAUSES, FORMATS, DECISIONS, PAGE = "docs/semantics.md", "docs/clauses.md", "docs/formats.md", "docs/DECISIONS.md", "docs/conformance.md"
 
 SUBJECTS = {
     "readings": "what each text stands for",
@@ -42,7 +42,7 @@ ORDER = "Warnings, payments and turns keep their order."
 FITS = "Where all of them lie from -2^127 to 2^127 - 1, the walk's end is the answer"
 FIRST_FORM = "The form of an object is the first in its table whose keys are all there."
 FIRST_FAULT = "The first fault that is met is reported"
-STATE_ROWS = "The rows of a list may stand in any order, each key once."
+STATE_ROWS = "The rows of a list may be in any order, each key once."
 WRITTEN = "Texts are compact, the keys of each object in the order of their bytes, and hexadecimal digits in lower case."
 
 RULES = {
@@ -72,7 +72,7 @@ RULES = {
     "equal_to": ("evaluation", "ValueEQ is true where the numbers are equal.", SEMANTICS, HOLDS),
     "quotient": ("division", "A quotient is truncated toward zero: -7 by 2 is -3.", SEMANTICS, QUOTIENT),
     "quotient by 0": ("division", "A quotient by 0 is 0.", SEMANTICS, QUOTIENT),
-    "signs of a quotient": ("division", "The sign of either side of a quotient moves out.", SEMANTICS, "and the sign of either side moves out"),
+    "signs of a quotient": ("division", "The sign of either side of a quotient moves out.", CLAUSES, "and the sign of either side moves out"),
     # intervals
     "InvalidInterval": ("intervals", "An interval that ends before it starts is refused with InvalidInterval, before all else.", SEMANTICS,
                         "refused with `InvalidInterval` where the interval ends before it starts"),
@@ -88,7 +88,7 @@ RULES = {
                   "A timeout at or before the fixed interval's start: it goes on with its timeout continuation."),
     "Ambiguous": ("intervals", "A timeout after the interval's start and not after its end is refused with Ambiguous, wherever in the transaction.",
                   SEMANTICS, "`When` whose timeout lies after the start and not after the end: ambiguous"),
-    "time goes on": ("intervals", "After a transaction the minimum time is the greater of the old one and the interval's start.", SEMANTICS,
+    "time goes on": ("intervals", "After a transaction the minimum time is the greater of the old one and the interval's start.", CLAUSES,
                      "after success the minimum time is the greater of the old one and the interval's start"),
     # reductions
     "if": ("reductions", "If goes on with `then` where its observation is true, else with `else`.", SEMANTICS,
@@ -102,7 +102,7 @@ RULES = {
              "The contract settles; then each input in turn applies, and the contract settles again."),
     "order of reductions": ("reductions", "Each reduction sees the state that those before it left.", SEMANTICS,
                             "a list of reductions, each from where the one before ended"),
-    "last timeout": ("reductions", "At or after its last timeout a contract closes without inputs.", SEMANTICS,
+    "last timeout": ("reductions", "At or after its last timeout a contract closes without inputs.", CLAUSES,
                      "without inputs, in an interval that starts at or after the greatest timeout"),
     # warnings
     "pay of nothing": ("warnings", "A Pay of 0 or less warns NonPositivePay and pays nothing.", SEMANTICS, PAY),
@@ -159,8 +159,8 @@ RULES = {
     "input": ("readings", "The forms of inputs and transactions.", FORMATS, "### Input"),
     "state": ("readings", "The form of a state, its rows in any order.", FORMATS, STATE_ROWS),
     "first form": ("readings", "An object has the first form whose keys are all there.", FORMATS, FIRST_FORM),
-    "further keys": ("readings", "Further keys are ignored, whatever stands under them.", FORMATS, "Further keys are ignored, whatever stands under them."),
-    "last of a key": ("readings", "Of a key that stands twice in one object, the last value counts.", FORMATS, "Of a key that stands twice in one object"),
+    "further keys": ("readings", "Further keys are ignored, whatever is under them.", FORMATS, "Further keys are ignored, whatever is under them."),
+    "last of a key": ("readings", "Of a key that comes twice in one object, the last value counts.", FORMATS, "Of a key that comes twice in one object"),
     "escapes": ("readings", "Texts are compared after their escapes.", FORMATS, "Texts are compared after their escapes"),
     "numbers read": ("readings", "A whole number lies from -2^63 to 2^64 - 1, a time from -2^63 to 2^63 - 1.", FORMATS,
                      "A whole number lies from -2^63 to 2^64 - 1"),
@@ -176,7 +176,7 @@ RULES = {
                    "The first fault that is met is reported, so mend it and run again"),
     # round trips
     "canonical": ("round_trips", "What is read is written with the keys of its form alone, and symbols in lower case.", FORMATS, WRITTEN),
-    "rows in order": ("round_trips", "The rows of a state stand in the order of their keys.", FORMATS, "whose rows stand in the order of their keys"),
+    "rows in order": ("round_trips", "The rows of a state stand in the order of their keys.", FORMATS, "whose rows are in the order of their keys"),
     # traces
     "goes on": ("traces", "Each transaction starts from the contract and the state that the one before it left.", "docs/glossary.md",
                 "each from the state in which the one before it left the contract"),
