@@ -1,5 +1,5 @@
 -- What stands in a request.
-use Rattle.std.specs.Prelude.{ℕ, Bool, List, [], Option, Some, None, Result, Ok, Err, codes, if◌then◌else◌}
+use Rattle.std.specs.Prelude.{ℕ, ℤ, Bool, List, [], Option, Some, None, Result, Ok, Err, codes, if◌then◌else◌}
 use Rattle.std.specs.Option.{option_and_then}
 use Rattle.collections.specs.Answers.{◌>>=◌}
 use Rattle.contract.specs.declared.tree.Contract.{Contract}
@@ -11,7 +11,7 @@ use Rattle.states.specs.States.{StateMaps}
 use Rattle.serde_json.specs.Data.{Data}
 use Rattle.serde_json.specs.Find.{get, as_str}
 use Rattle.json_read_names.specs.Forms.{contract_form}
-use Rattle.json_read_names.specs.Parts.{member_at, reading_at}
+use Rattle.json_read_names.specs.Parts.{member_at, reading_at, time}
 use Rattle.json_read_names.specs.ReadsNames.{party, token}
 use Rattle.json_read_names.specs.declared.fault.JsonFault.{JsonFault}
 use Rattle.json_read_names.specs.declared.forms.ContractForm.{ContractForm}
@@ -25,6 +25,7 @@ use Rattle.marlowe_run.specs.Start.{at_first, state_reading}
 use Rattle.definitions.specs.Named.{named}
 use Rattle.definitions.specs.declared.definition.Definition.{Definition}
 use Rattle.request_parts.specs.Refusals.{run_refused, trace_refused, part_refused}
+use Rattle.request_parts.specs.declared.refusal.Part.{Part}
 use Rattle.request_parts.specs.declared.refusal.Part.TheVariants as parts
 use Rattle.request_parts.specs.declared.refusal.Refusal.{Refusal}
 use Rattle.request_parts.specs.declared.refusal.Refusal.TheVariants as refusals
@@ -80,6 +81,16 @@ transactions_or (Some d) = told_as (λ f. trace_refused (texts_fault f)) (taken 
 -- at a key: a list, one, or none where the key isn't there
 abbrev pub transactions_at : List ℕ → Data → Result (List Transaction) Refusal
 transactions_at key body = transactions_or (get key body)
+
+-- ---- times
+
+abbrev time_or : Part → Option Data → Result (Option ℤ) Refusal
+time_or p None = Ok None
+time_or p (Some d) = read_as (part_refused p) (time d) >>= λ t. Ok (Some t)
+
+-- at a key, if it is there
+abbrev pub time_at : Part → List ℕ → Data → Result (Option ℤ) Refusal
+time_at p key body = time_or p (get key body)
 
 -- ---- other values
 

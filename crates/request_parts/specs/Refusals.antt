@@ -1,5 +1,5 @@
 -- Why a line isn't answered by what it asks, and how that is told.
-use Rattle.std.specs.Prelude.{ℕ, List, [], ◌++◌, codes, decimal}
+use Rattle.std.specs.Prelude.{ℕ, List, ◌++◌, codes, decimal}
 use Rattle.json_read_names.specs.declared.fault.JsonFault.{JsonFault}
 use Rattle.json_read_names.specs.declared.fault.JsonFault.TheVariants as json
 use Rattle.marlowe_refusals.specs.declared.fault.Fault.TheVariants as fault
@@ -69,5 +69,6 @@ refusal_members refusals.Full = named (codes "define") (codes "Full")
 refusal_members refusals.NoPlay = named (codes "play") (codes "Unsupported")
 refusal_members refusals.Memory = named (codes "memory") (codes "Memory")
 
-abbrev pub refusal_object : Refusal → List ℕ
-refusal_object refusal = refused_object (refusal_members refusal) []
+-- .. and what else is told of it, which may be nothing
+abbrev pub refusal_object : Refusal → List ℕ → List ℕ
+refusal_object refusal reason = refused_object (refusal_members refusal) reason

@@ -4,7 +4,7 @@ ghost use Rattle.collections.specs.Answers.{Aside, AsideBy};
 ghost use Rattle.contract.specs.Tree.{contract_tree};
 ghost use Rattle.json_tree.specs.View.{view};
 ghost use Rattle.json_write_contracts.specs.WrittenContract.{contract_fits};
-ghost use Rattle.request_parts.specs.Parts.{contract_at, contract_given, input_at, name_of, party_at, state_at, token_at, transaction_at};
+ghost use Rattle.request_parts.specs.Parts.{contract_at, contract_given, input_at, name_of, party_at, state_at, time_at, token_at, transaction_at};
 ghost use Rattle.request_parts.specs.Given.{given_contract};
 ghost use Rattle.request_parts.specs.PartsSupport.{AllFit};
 
@@ -15,7 +15,7 @@ use contract_json::{
     state_with_texts_from_json, token_from_json, transaction_from_json,
 };
 use definitions::Definitions;
-use json_read_names::{ContractForm, JsonFault, contract_form};
+use json_read_names::{ContractForm, JsonFault, contract_form, read_time};
 use json_tree::{Json, JsonValue};
 use marlowe_refusals::RunFault;
 use std::alloc::Global;
@@ -89,8 +89,8 @@ fn contract_given<'d>(
     }
 }
 
-// The name in a value that has no form of a contract.
-fn name_of<'j>(json: &'j Json<'_>) -> Option<&'j str>
+/// The name in a value that has no form of a contract.
+pub fn name_of<'j>(json: &'j Json<'_>) -> Option<&'j str>
     ensures { option_map (λ name. name.now) result ≡ name_of (view json.now) }
 {
     match contract_form(json) {
@@ -130,6 +130,19 @@ pub fn transaction_at(alloc: Global, body: &Json<'_>) -> Result<Transaction, Ref
             Err(fault) => Err(Refusal::from(RunFault::of_transaction(fault))),
         },
         None => Err(Refusal::from(RunFault::of_transaction(JsonFault::NoForm))),
+    }
+}
+
+/// A time at a key, if it is there. It is in POSIX milliseconds.
+pub fn time_at(part: Part, key: &str, body: &Json<'_>) -> Result<Option<i64>, Refusal>
+    ensures { Aside Refusal.Memory result (time_at part key.now (view body.now)) }
+{
+    match body.member(key) {
+        Some(json) => match read_time(json) {
+            Ok(time) => Ok(Some(time)),
+            Err(fault) => Err(Refusal::of_part(part, fault)),
+        },
+        None => Ok(None),
     }
 }
 

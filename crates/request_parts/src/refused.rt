@@ -8,12 +8,16 @@ use marlowe_refusals::json_fault_name;
 use refusal_objects::{members, named_members, refused_object};
 use std::alloc::Global;
 
-/// The object that says what is refused, and why.
-pub fn refusal_object(alloc: Global, refusal: Refusal) -> Result<Vec<u8>, Memory>
-    ensures { IfOk result (λ text. text.items ≡ refusal_object refusal) }
+/// The object that says what is refused, and why, with what else is told of it.
+pub(crate) fn refusal_object(
+    alloc: Global,
+    refusal: Refusal,
+    reason: &[u8],
+) -> Result<Vec<u8>, Memory>
+    ensures { IfOk result (λ text. text.items ≡ refusal_object refusal reason.now) }
 {
     let members = refusal_members(alloc, refusal)?;
-    refused_object(alloc, members.as_slice(), b"")
+    refused_object(alloc, members.as_slice(), reason)
 }
 
 fn refusal_members(alloc: Global, refusal: Refusal) -> Result<Vec<u8>, Memory>

@@ -1,11 +1,12 @@
-//! Streams of requests, and their answers: the lines of `stdin`, whose answers are the first lines of `stdout`; a line of more than 4 MiB, and one
-//! behind it; a thousand names, and the answer to one more; lines that come a byte at a time, the last without a line feed; these once more by a
-//! reader that fails, and to a writer that fails. A line behind each stream tells how it ended.
+//! Streams of requests, and their answers: the lines of `stdin`, whose answers are the first lines of `stdout`. Behind it nobody plays: a line of
+//! more than 4 MiB, and a play; a thousand names, and the answer to one more; lines that come a byte at a time, the last without a line feed; these
+//! once more by a reader that fails, and to a writer that fails. A line behind each stream tells how it ended.
 #![tactic(auto)]
 
 use definitions::Definitions;
 use marlowe_io::{ReaderSource, ShortSink, ShortSource, Sink, Source, emit, output};
 use marlowe_run::Readable;
+use request_plays::serve_in_turn;
 use serve::{Ended, answer, serve};
 use std::alloc::{AllocError, Global};
 use std::process::ExitCode;
@@ -21,7 +22,8 @@ fn main(rt: HostRuntime) -> ExitCode {
     let out = rt.stdout();
     let mut answers = output(&out);
     let mut requests = ReaderSource::new(rt.reader());
-    stream(rt.alloc(), &mut requests, &mut answers);
+    let ended = serve_in_turn(&rt, READABLE, &mut requests, &mut answers);
+    tell(&mut answers, word(ended));
     if long_line(rt.alloc(), &mut answers).is_err() {
         return ExitCode::from(1);
     }
@@ -37,11 +39,11 @@ fn main(rt: HostRuntime) -> ExitCode {
     ExitCode::from(0)
 }
 
-// A line of more than 4 MiB, and one behind it.
+// A line of more than 4 MiB, and a play behind it.
 fn long_line<K: Sink>(alloc: Global, answers: &mut K) -> Result<(), AllocError> {
     let mut long = Vec::new(alloc);
     long.resize(4_194_305, b'x')?;
-    long.extend_from_slice(b"\n{\"id\":2,\"forget\":\"x\"}\n")?;
+    long.extend_from_slice(b"\n{\"id\":2,\"play\":{}}\n")?;
     stream(alloc, &mut ReaderSource::new(long.as_slice()), answers);
     Ok(())
 }

@@ -1,3 +1,5 @@
+pub mod Reasoned
+pub mod ReasonedSupport
 pub mod Commands
 pub mod Asking
 pub mod AskingSupport

@@ -13,6 +13,7 @@ mod encoding;
 mod line_answers;
 mod player;
 mod reading;
+mod refusing;
 mod stream;
 
 pub use line_answers::{answer, answer_too_long, answer_with};

@@ -1,0 +1,11 @@
+use Rattle.contract.specs.Tree.{contract_tree}
+use Rattle.loss_walk.proofs.CoverLemmas.{lose_within, others_lose_nothing}
+use Rattle.loss_walk.proofs.losing.walked_losses.Goals as goal
+
+pub returns-clause-losses : goal.returns-clause-losses
+returns-clause-losses c =
+    lose_within c.in_ok-known.known c.args.state.now (contract_tree c.args.contract.now) c.new-rows.result c.walk.new.rows c.in_ok-known.ensures c.in_ok-walk.ensures c.nets_bound_losses.ensures c.in_ok-all.all c.in_ok-all.ensures.floors
+
+pub returns-clause-others : goal.returns-clause-others
+returns-clause-others c =
+    others_lose_nothing c.in_ok-known.known c.args.state.now (contract_tree c.args.contract.now) c.new-rows.result c.walk.new.rows c.in_ok-known.ensures c.in_ok-walk.ensures c.nets_bound_losses.ensures c.in_ok-all.all c.in_ok-all.ensures.all

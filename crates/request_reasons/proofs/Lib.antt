@@ -1,0 +1,4 @@
+mod ItemLemmas
+mod PartLemmas
+mod ReadingLemmas
+mod Worked

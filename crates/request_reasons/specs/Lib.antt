@@ -1,0 +1,4 @@
+pub mod Parts
+pub mod Reasons
+pub mod Rows
+pub mod PartsSupport
