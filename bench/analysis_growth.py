@@ -49,8 +49,8 @@ def pays(amount, then, account=A):
 
 
 def beside(n, make):
-    """A When of n notifications, each of which goes on with a contract of its own."""
-    cases = [{"case": {"notify_if": True}, "then": make(i)} for i in range(n)]
+    """A When of n choices of names of their own, each of which goes on with a contract of its own. (Of n notifications the first takes all.)"""
+    cases = [{"case": {"for_choice": {"choice_name": f"p{i}", "choice_owner": B}, "choose_between": [{"from": 0, "to": 0}]}, "then": make(i)} for i in range(n)]
     return {"when": cases, "timeout": 100000, "timeout_continuation": "close"}, None, None
 
 

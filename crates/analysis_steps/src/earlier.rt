@@ -36,6 +36,14 @@ fn agree(owner: &Party, payer: &Party, token: &Token, of: &Party, by: &Party, ot
     both(owners, both(payers, tokens))
 }
 
+// Whether two values are constants that differ, which needs no look at what is known.
+fn are_different(one: &Value, other: &Value) -> bool {
+    match (one, other) {
+        (Value::Constant(a), Value::Constant(b)) => a != b,
+        _ => false,
+    }
+}
+
 // Whether a case takes each deposit of a value.
 fn takes(
     known: &Known,
@@ -49,6 +57,9 @@ fn takes(
 {
     match &case.action {
         Action::Deposit(of, by, other, amount) => {
+            if are_different(value, amount) {
+                return Ok(false);
+            }
             if agree(owner, payer, token, of, by, other) {
                 equal(known, value, amount)
             } else {

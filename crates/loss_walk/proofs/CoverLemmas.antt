@@ -1,5 +1,5 @@
 -- A walk over a contract, step by step: what is known, and which floors are kept from there on.
-use Rattle.std.proofs.Common.{◌≡◌, ℕ, zero, suc, ◌+◌, ◌<◌, ◌≤◌, ℤ, pos, neg_ℤ, ◌+ℤ◌, ◌≤ℤ◌, cond, List, [], ◌∷◌, ◌++◌, map, take, length, refl, sym, subst, ◌∙◌, Option, Some, None, IfSome, arith, below_more}
+use Rattle.std.proofs.Common.{◌≡◌, ℕ, zero, suc, ◌+◌, ◌-◌, ◌<◌, ◌≤◌, ℤ, pos, neg_ℤ, ◌+ℤ◌, ◌≤ℤ◌, cond, List, [], ◌∷◌, ◌++◌, map, take, length, refl, sym, subst, ◌∙◌, Option, Some, None, IfSome, arith, below_more}
 use Rattle.std.proofs.lemmas.Int.{ints}
 use Rattle.std.proofs.Math.ListN.{get_or}
 use Rattle.std.specs.List.{AllByRecursion}
@@ -204,6 +204,26 @@ pub at_index : (k : Known) (cases : List Case) (i : ℕ) (case : Case) (f g : Ro
 at_index k cases i case f g l is at a n h =
     let u = at a n h in
     (u.0, λ other o. subst (λ (x : Case). CoversCase k (actions_before (take i cases)) x a n) (same_case cases i case other l is o) u.1)
+
+-- ---- the last case
+
+pub last_below : (n : ℕ) → (n ≡ 0 → ⊥) → n - 1 < n
+last_below n h = omega (arith, h)
+
+up_to_last : (n : ℕ) → n ≤ n - 1 + 1
+up_to_last n = omega arith
+
+fewer_below : (k : Known) (cases : List Case) (n i : ℕ) (start now : Rows) → n ≤ i → CoverBelow k cases i start now → CoverBelow k cases n start now
+fewer_below k cases n i start now l below a m h =
+    let w = below a m h in
+    (w.0, λ j b. w.1 j (omega (arith, b, l)))
+
+pub last_found : (k : Known) (o : Option Known) (cases : List Case) (i : ℕ) (case : Case) (start now next : Rows) → o ≡ Some k → (length cases ≡ 0 → ⊥) → length cases - 1 ≤ i → case ≡ get_or cases (length cases - 1) case → CoverBelow k cases i start now
+    → Finds (CoversBehind k (take (length cases - 1) cases) case) now next → Finds (CoversEachIf o cases) start next
+last_found k o cases i case start now next e some end is below at =
+    let n = length cases - 1 in
+    all_below k o cases (n + 1) start next e (up_to_last (length cases))
+    (one_below k cases n start now next (fewer_below k cases n i start now end below) (at_index k cases n case now next (last_below (length cases) some) is at))
 
 -- ---- where something is known
 

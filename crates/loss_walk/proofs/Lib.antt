@@ -3,3 +3,6 @@ mod BringLemmas
 mod FloorLemmas
 mod CoverLemmas
 mod NodesLemmas
+mod AskedLemmas
+mod SameLemmas
+mod SoleLemmas

@@ -1,3 +1,5 @@
 pub mod Nets
 pub mod Brings
 pub mod Floors
+pub mod Asked
+pub mod Others

@@ -1,12 +1,15 @@
 //! What each party can lose.
 ghost use Rattle.std.specs.Prelude.{◌≡◌, true, Some, pos, IfOk, IfSome, OnOk};
 ghost use Rattle.contract.specs.Tree.{contract_tree};
+ghost use Rattle.analysis_spec.specs.Analysed.{PaysWithinRanges, PaysOthersNothing};
 ghost use Rattle.losses.specs.Told.{LoseWithin, OthersLoseNothing};
 ghost use Rattle.loss_walk.specs.Floors.{AreFloors, NameAll, Tells, IsTurned};
 
 use crate::floor::{Floor, brings, least_of};
 use crate::laws::nets_bound_losses;
+use crate::sole::sole_losses;
 use crate::walk::walk;
+use analysis_spec::PaidRange;
 use analysis_steps::start;
 use collections::{Entries, Items, Memory, TryClone};
 use contract::Contract;
@@ -17,8 +20,28 @@ use std::alloc::Global;
 
 /// What each party can lose of each token in whatever runs from a state: in none that leaves nothing in the contract did it bring
 /// more by more than `most` than it was paid. Named is who can bring something; who isn't named loses nothing. Only what is
-/// brought from the state on counts. Refused only for memory.
-pub fn losses_of(alloc: Global, contract: &Contract, state: &State) -> Result<Items<Loss>, Memory>
+/// brought from the state on counts. What parties are paid is given by its ranges, and whether each deposit is known to come; where
+/// one party alone brings something that tells enough, and else the contract is gone through. Refused only for memory.
+pub fn losses_of(
+    alloc: Global,
+    contract: &Contract,
+    state: &State,
+    ranges: &[PaidRange],
+    all_come: bool,
+) -> Result<Items<Loss>, Memory>
+    requires within { PaysWithinRanges ranges.now state.now (contract_tree contract.now) }
+    requires unpaid { PaysOthersNothing ranges.now state.now (contract_tree contract.now) }
+    ensures losses { IfOk result (λ all. LoseWithin all state.now (contract_tree contract.now)) }
+    ensures others { IfOk result (λ all. OthersLoseNothing all state.now (contract_tree contract.now)) }
+{
+    match sole_losses(alloc, contract, state, ranges, all_come)? {
+        Some(all) => Ok(all),
+        None => walked_losses(alloc, contract, state),
+    }
+}
+
+// .. by a walk over the contract.
+fn walked_losses(alloc: Global, contract: &Contract, state: &State) -> Result<Items<Loss>, Memory>
     ensures losses { IfOk result (λ all. LoseWithin all state.now (contract_tree contract.now)) }
     ensures others { IfOk result (λ all. OthersLoseNothing all state.now (contract_tree contract.now)) }
 {

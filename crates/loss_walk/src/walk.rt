@@ -129,7 +129,7 @@ fn walk_when(
     }
 }
 
-// Walks the cases of a When, where something is known.
+// Walks the cases of a When, where something is known: the last one with what is known there, and not with a copy of it.
 #[cycle(walk)]
 fn walk_cases(
     alloc: Global,
@@ -142,9 +142,15 @@ fn walk_cases(
     let Some(each) = known else {
         return Ok(());
     };
-    for index in 0..cases.len() {
+    let count = cases.len();
+    if count == 0 {
+        return Ok(());
+    }
+    let last = count - 1;
+    for index in 0..last {
         walk_copied(alloc, &each, cases, index, rows)?;
     }
+    walk_case(alloc, each, &cases[..last], &cases[last], rows)?;
     Ok(())
 }
 

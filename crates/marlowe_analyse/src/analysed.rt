@@ -119,7 +119,8 @@ pub fn analysis_text(
         unreached,
     } = analyse(alloc, contract, state)?;
     let out = told_out(contract, state, alarms.as_slice());
-    let losses = told_losses(alloc, contract, state, alarms.as_slice())?;
+    let all_come = unreached.is_empty();
+    let losses = told_losses(alloc, contract, state, alarms.as_slice(), &ranges, all_come)?;
     let work = work_of(length, telling.runs);
     let alarms = told_alarms(alloc, contract, state, alarms.as_slice(), work)?;
     let ranges = told_ranges(alloc, contract, state, ranges)?;

@@ -34,18 +34,24 @@ pub(crate) fn work_of(length: usize, runs: bool) -> u64 {
     }
 }
 
-// The work of the search for runs that reach bounds, likewise.
+// The work of the search for runs that reach bounds, likewise; but no more than the last of these over the length: the longer the
+// text, the more of it does each try go through.
 const BOUNDS_WORK: u64 = 1 << 20;
 
 const BOUNDS_WORK_OF_A_BYTE: u64 = 8;
 
+const BOUNDS_WORK_OVER_BYTES: u64 = 1 << 36;
+
 /// The work that is spent on looking for runs that reach bounds.
 pub(crate) fn bounds_work_of(length: usize, runs: bool) -> u64 {
-    if runs {
-        BOUNDS_WORK.saturating_add((length as u64).saturating_mul(BOUNDS_WORK_OF_A_BYTE))
-    } else {
-        0
+    if !runs {
+        return 0;
     }
+    let bytes = (length as u64).max(1);
+    let most = BOUNDS_WORK_OVER_BYTES / bytes;
+    BOUNDS_WORK
+        .saturating_add(bytes.saturating_mul(BOUNDS_WORK_OF_A_BYTE))
+        .min(most)
 }
 
 /// The alarms in the order of their places, none twice, each with a run that ends in it if one was found, by no more than

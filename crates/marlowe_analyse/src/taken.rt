@@ -2,10 +2,10 @@
 ghost use Rattle.std.specs.Prelude.{◌≡◌, ◌≢◌, true, false, IfOk};
 ghost use Rattle.contract.specs.Tree.{contract_tree};
 ghost use Rattle.analysis_spec.specs.declared.kind.AlarmKind.TheVariants.{Leaves128};
-ghost use Rattle.analysis_spec.specs.Analysed.{IsSilent, StaysUnlessTold};
+ghost use Rattle.analysis_spec.specs.Analysed.{IsSilent, StaysUnlessTold, PaysWithinRanges, PaysOthersNothing};
 ghost use Rattle.marlowe_analyse.specs.Told.{IsOut, AreLosses};
 
-use analysis_spec::{Alarm, AlarmKind};
+use analysis_spec::{Alarm, AlarmKind, PaidRange};
 use closing_times::{contracts_close_from_their_last_timeout, last_timeout};
 use collections::{Items, Memory};
 use contract::{Contract, State};
@@ -29,19 +29,24 @@ pub(crate) fn told_out(contract: &Contract, state: &State, alarms: &[Alarm]) -> 
     }
 }
 
-/// What parties can lose; nothing where a number may leave 128 bits, since then what they brought may never come out.
+/// What parties can lose, where they are paid within these ranges; nothing where a number may leave 128 bits, since then what they
+/// brought may never come out. `all_come` tells that each deposit is known to come.
 pub(crate) fn told_losses(
     alloc: Global,
     contract: &Contract,
     state: &State,
     alarms: &[Alarm],
+    ranges: &Items<PaidRange>,
+    all_come: bool,
 ) -> Result<Option<Items<Loss>>, Memory>
+    requires within { PaysWithinRanges ranges.now state.now (contract_tree contract.now) }
+    requires unpaid { PaysOthersNothing ranges.now state.now (contract_tree contract.now) }
     ensures { IfOk result (AreLosses state.now (contract_tree contract.now) alarms.now) }
 {
     if leaves(alarms) {
         return Ok(None);
     }
-    let losses = losses_of(alloc, contract, state)?;
+    let losses = losses_of(alloc, contract, state, ranges.as_slice(), all_come)?;
     Ok(Some(losses))
 }
 

@@ -1,11 +1,11 @@
-use Rattle.std.proofs.Common.{sym, ◌∙◌, ap, subst, take, map, arith, rules, w64, SFits}
+use Rattle.std.proofs.Common.{◌-◌, sym, ◌∙◌, ap, subst, take, length, map, arith, rules, w64, SFits}
 use Rattle.std.proofs.lemmas.Int.{to_z-of_z}
 use Rattle.contract.specs.Tree.{value_tree, observation_tree, contract_tree, case_tree, case_trees, when}
 use Rattle.analysis_walk.specs.Conclusions.{WaitsSo, TimesOutSo}
 use Rattle.analysis_values.specs.Known.{Known, IsDescribed}
 use Rattle.analysis_walk.specs.Knowledge.{actions_before}
 use Rattle.loss_walk.specs.Floors.{Finds, IsCovered, CoversBehind}
-use Rattle.loss_walk.proofs.CoverLemmas.{both_of, behind_nothing, close_found, pay_found, let_found, assert_found, if_found, when_found, closed_found, case_found, none_below, one_below, all_below, at_index, known_found, none_found, no_cases_found, none_known}
+use Rattle.loss_walk.proofs.CoverLemmas.{both_of, behind_nothing, close_found, pay_found, let_found, assert_found, if_found, when_found, closed_found, case_found, none_below, one_below, at_index, last_below, last_found, known_found, none_found, no_cases_found, none_known}
 use Rattle.loss_walk.proofs.NodesLemmas.{is-Close, is-Pay, is-Let, is-Assert, is-If, is-When, nodes-at}
 use Rattle.loss_walk.proofs.walk.+walk.Goals as goal
 
@@ -90,8 +90,15 @@ pub walk_cases-loop-index-preserved : goal.walk_cases-loop-index-preserved
 walk_cases-loop-index-preserved t c =
     one_below c.in-Some.each c.args.cases.now c.loop-index.index c.args.rows.now c.loop-index.rows c.walk_copied.new.rows c.loop-index.invariant c.in_ok-walk_copied.ensures
 
+pub walk_cases-walk_case-requires : goal.walk_cases-walk_case-requires
+walk_cases-walk_case-requires t c =
+    let ks = c.args.cases.now in
+    let near = nodes-at ks (length ks - 1) c.index-cases-last.result (last_below (length ks) c.if-count-eq0.false) c.index-cases-last.is in
+    (omega (arith, c.decreases, near), tt)
+
 pub walk_cases-returns : goal.walk_cases-returns
-walk_cases-returns t c = all_below c.in-Some.each c.args.known c.args.cases.now c.loop-index.index c.args.rows.now c.loop-index.rows c.in-Some.is c.loop-index-test.false c.loop-index.invariant
+walk_cases-returns t c =
+    last_found c.in-Some.each c.args.known c.args.cases.now c.loop-index.index c.index-cases-last.result c.args.rows.now c.loop-index.rows c.walk_case.new.rows c.in-Some.is c.if-count-eq0.false c.loop-index-test.false c.index-cases-last.is c.loop-index.invariant c.in_ok-walk_case.ensures
 
 pub walk_copied-walk_case-requires : goal.walk_copied-walk_case-requires
 walk_copied-walk_case-requires t c =

@@ -1,6 +1,6 @@
 use Rattle.contract.specs.Tree.{contract_tree}
 use Rattle.loss_walk.proofs.CoverLemmas.{lose_within, others_lose_nothing}
-use Rattle.loss_walk.proofs.losing.losses_of.Goals as goal
+use Rattle.loss_walk.proofs.losing.walked_losses.Goals as goal
 
 pub returns-clause-losses : goal.returns-clause-losses
 returns-clause-losses c =
