@@ -86,6 +86,7 @@ def texts_of():
         "no table is so deep": ("table", lets, deep),
         "no table is so deep, with much beside the way": ("table", ifs(1100), deep),
         "a key isn't read": ("run", at_end([*pays[:2], compact(NOTHING)], 0, '"pay":', '"note":1,"pay":'), []),
+        "a hundred keys at the beginning aren't read": ("run", ["{" + hundred[1:] + "," + forms[0][1:], forms[1], compact(NOTHING)], []),
         "a hundred keys at the end aren't read": ("run", at_end([*forms[:2], compact(NOTHING)], 0, "}", hundred + "}"), []),
     }
 

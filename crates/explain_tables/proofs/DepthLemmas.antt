@@ -1,7 +1,8 @@
 -- Parts that are too high, case by case, and the way down to them.
-use Rattle.std.proofs.Common.{◌≡◌, ℕ, zero, suc, ◌+◌, ◌<◌, ◌≤◌, List, [], ◌∷◌, ◌++◌, length, get_or, map, refl, sym, ap, ◌∙◌, subst, inl, inr, ◌⊎◌, arith, below_more, Option, Some, None}
+use Rattle.std.proofs.Common.{◌≡◌, ℕ, zero, suc, ◌+◌, ◌-◌, ◌<◌, ◌≤◌, List, [], ◌∷◌, ◌++◌, length, get_or, map, reverse, refl, sym, ap, ◌∙◌, subst, inl, inr, ◌⊎◌, arith, below_more, Option, Some, None}
 use Rattle.std.specs.Option.{option_and_then}
 use Rattle.std.proofs.lemmas.Bool.{cases_lt}
+use Rattle.std.proofs.lemmas.List.{reverse-append}
 use Rattle.contract.specs.declared.tree.Case.{Case}
 use Rattle.contract.proofs.TreeLaws.{case_tree-parts}
 use Rattle.contract.specs.Tree.{ActionTree, ContractTree, CaseTrees, case_tree, case_trees, contract_tree}
@@ -11,7 +12,9 @@ use Rattle.analysis_spec.specs.declared.path.PathStep.TheVariants.{Then, Else, T
 use Rattle.analysis_spec.specs.Places.{behind_case, part_behind}
 use Rattle.trace.specs.Paths.{part_along}
 use Rattle.explain_tables.specs.Depths.{levels, levels_of, NoneIsHigh, IsTooDeepAt}
-use Rattle.explain_tables.specs.DepthsSupport.{NoCaseIsHigh}
+use Rattle.explain_tables.specs.declared.strides.Far.{Far}
+use Rattle.explain_tables.specs.declared.strides.Way.{Way}
+use Rattle.explain_tables.specs.DepthsSupport.{GoesOn, IsFar, NoCaseIsHigh}
 
 pub low_same : (c d : ContractTree) (n room : ℕ) → ◌≡◌ {A = Option ContractTree} (Some c) (Some d) → n + contract_height c ≤ room → n + contract_height d ≤ room
 low_same c d n room e h = let k : c ≡ d = cc in subst (λ (x : ContractTree). n + contract_height x ≤ room) k h
@@ -79,3 +82,42 @@ too_deep_below c d e p step room s l b h k =
 -- no part behind the one that the way has come to is too high
 pub too_deep_here : (c d : ContractTree) (p : List PathStep) (room : ℕ) → part_along c p ≡ Some d → levels_of p + room ≡ 999 → room < contract_height d → NoneIsHigh room d → IsTooDeepAt c p
 too_deep_here c d p room s l h n = record { part = d; stands = s; high = omega (arith, l, h); last = inr (room, l, n) }
+
+-- ---- the way to a part far down
+
+-- one step further up
+pub far_more : (room down : ℕ) (c d : ContractTree) (step : PathStep) (far more : Far) → part_behind c step ≡ Some d → down ≡ levels step → down ≤ room
+    → more ≡ record { back = far.back ++ step ∷ []; part = far.part; room = far.room } → IsFar (room - down) d far → IsFar room c more
+far_more room down c d step far more b e l is f =
+    let turned : reverse more.back ≡ step ∷ reverse far.back = ap (λ (m : Far). reverse m.back) is ∙ reverse-append far.back (step ∷ []) in
+    let left : more.room ≡ far.room = ap (λ (m : Far). m.room) is in
+    let here : contract_tree more.part.now ≡ contract_tree far.part.now = ap (λ (m : Far). contract_tree m.part.now) is in
+    record {
+      stands = ap (part_along c) turned ∙ ap (option_and_then (λ x. part_along x (reverse far.back))) b ∙ f.stands ∙ ap (λ (x : ContractTree). let o : Option ContractTree = Some x in o) (sym here);
+      levels = omega (arith, ap levels_of turned, left, e, l, f.levels);
+      high = omega (arith, left, f.high, ap contract_height here);
+    }
+
+along_both : (c d e : ContractTree) (p q : List PathStep) → part_along c p ≡ Some d → part_along d q ≡ Some e → part_along c (p ++ q) ≡ Some e
+along_both c d e [] q h k = let same : c ≡ d = cc in ap (λ x. part_along x q) same ∙ k
+along_both c d e (s ∷ p) q h k = by (part_behind c s) h (λ x f. along_both x d e p q f k)
+  where
+    by : (o : Option ContractTree) → option_and_then (λ x. part_along x p) o ≡ Some d → ((x : ContractTree) → part_along x p ≡ Some d → part_along x (p ++ q) ≡ Some e)
+        → option_and_then (λ x. part_along x (p ++ q)) o ≡ Some e
+    by None f r = absurd (cc)
+    by (Some x) f r = r x f
+
+levels_both : (p q : List PathStep) → levels_of (p ++ q) ≡ levels_of p + levels_of q
+levels_both [] q = omega arith
+levels_both (s ∷ p) q = let h = levels_both p q in omega (arith, h)
+
+-- .. from the end of a way
+pub way_on : (way : Way) (far : Far) (path : List PathStep) → IsFar way.room (contract_tree way.part.now) far → path ≡ way.path ++ reverse far.back
+    → GoesOn way (record { path = path; part = far.part; room = far.room })
+way_on way far path f e = λ c it.
+    let h = levels_both way.path (reverse far.back) in
+    record {
+      stands = ap (part_along c) e ∙ along_both c (contract_tree way.part.now) (contract_tree far.part.now) way.path (reverse far.back) it.stands f.stands;
+      levels = omega (arith, it.levels, h, ap levels_of e, f.levels);
+      high = f.high;
+    }

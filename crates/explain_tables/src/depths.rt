@@ -5,29 +5,36 @@ ghost use Rattle.table.specs.Heights.{contract_height};
 ghost use Rattle.explain_tables.specs.Depths.{levels, NoneIsHigh, IsTooDeepAt};
 ghost use Rattle.explain_tables.specs.DepthsSupport.{IsHighCase, LeadsHigh, NoCaseIsHigh};
 
+use crate::branches::{Branch, levels};
+use crate::strides::{Way, leap};
 use analysis_spec::PathStep;
 use collections::{Items, Memory};
 use contract::{Case, Contract};
 use lowering::is_low_contract;
 use std::alloc::Global;
 
-// A part of a contract, and the step that leads there.
-#[derive(Clone, Copy)]
-struct High<'c> {
-    step: PathStep,
-    part: &'c Contract,
-}
-
-/// The place of a contract that is higher than 999 at which it is too deep: the way goes down by the first part that is too high for
-/// the room that is left, until the room is used up, or no part is: then it is a value or an observation of the part there. Looks at
-/// each part once for each level above it, of which there are at most 1,000.
+/// The place of a contract that is higher than 999 at which it is too deep: the way goes down to a part that is too high for the room
+/// that is left, until the room is used up, or no part behind it is: then it is a value or an observation of the part there. The way goes
+/// by strides of 512 levels, then of 256 and so on. So each part is looked at some ten times, however deep it stands.
 pub fn too_deep_at(alloc: Global, contract: &Contract) -> Result<Items<PathStep>, Memory>
     requires { 999 < contract_height (contract_tree contract.now) }
     ensures { IfOk result (IsTooDeepAt (contract_tree contract.now)) }
 {
-    let mut path = Items::new(alloc);
-    let mut at = contract;
-    let mut room: u16 = 999;
+    let mut way = Way {
+        path: Items::new(alloc),
+        part: contract,
+        room: 999,
+    };
+    let mut stride: u16 = 512;
+    'far: while stride > 0 {
+        way = leap(alloc, way, stride)?;
+        stride /= 2;
+    }
+    let Way {
+        mut path,
+        part: mut at,
+        mut room,
+    } = way;
     'way: while let Some(high) = high_part(at, room) {
         path.push(high.step)?;
         let down = levels(high.step);
@@ -40,18 +47,8 @@ pub fn too_deep_at(alloc: Global, contract: &Contract) -> Result<Items<PathStep>
     Ok(path)
 }
 
-// How many levels a step goes down.
-fn levels(step: PathStep) -> u16
-    ensures { result ≡ levels step }
-{
-    match step {
-        PathStep::Then | PathStep::Else | PathStep::TimeoutContinuation => 1,
-        PathStep::Case(_) | PathStep::Action(_) => 2,
-    }
-}
-
 // The first part behind a contract that is higher than the room, if there is one.
-fn high_part(contract: &Contract, room: u16) -> Option<High<'_>>
+fn high_part(contract: &Contract, room: u16) -> Option<Branch<'_>>
     ensures { MatchOption result (NoneIsHigh room (contract_tree contract.now)) (LeadsHigh room (contract_tree contract.now)) }
 {
     match contract {
@@ -71,7 +68,7 @@ fn high_part(contract: &Contract, room: u16) -> Option<High<'_>>
 }
 
 // A part, if it is higher than the room below its contract.
-fn if_high(step: PathStep, part: &Contract, room: u16) -> Option<High<'_>>
+fn if_high(step: PathStep, part: &Contract, room: u16) -> Option<Branch<'_>>
     ensures { MatchOption result (levels step + contract_height (contract_tree part.now) ≤ room)
         (λ high. (high ≡ record { step = step; part = part.entry }) × (room < levels step + contract_height (contract_tree part.now))) }
 {
@@ -79,12 +76,12 @@ fn if_high(step: PathStep, part: &Contract, room: u16) -> Option<High<'_>>
     if down <= room && is_low_contract(part, room - down) {
         None
     } else {
-        Some(High { step, part })
+        Some(Branch { step, part })
     }
 }
 
 // What follows the first case that is higher than the room, if there is one.
-fn high_case(cases: &[Case], room: u16) -> Option<High<'_>>
+fn high_case(cases: &[Case], room: u16) -> Option<Branch<'_>>
     ensures { MatchOption result (NoCaseIsHigh room (case_trees (map case_tree cases.now)))
         (IsHighCase room (case_trees (map case_tree cases.now))) }
 {

@@ -4,6 +4,7 @@
 //! indented, or as a member of a JSON object for tools.
 #![tactic(auto)]
 
+mod branches;
 mod counts;
 mod depths;
 mod explanation;
@@ -11,6 +12,7 @@ mod finding;
 mod laws;
 mod lines;
 mod members;
+mod strides;
 
 pub use counts::{continuations, other_nodes};
 pub use depths::too_deep_at;

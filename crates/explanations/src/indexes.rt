@@ -101,7 +101,7 @@ fn newer<'j, 'a>(
 }
 
 /// The keys of an object, in order; of other values there are none.
-pub(crate) fn keys_in<'a>(alloc: Global, json: &Json<'a>) -> Result<Vec<&'a str>, Memory>
+pub fn keys_in<'a>(alloc: Global, json: &Json<'a>) -> Result<Vec<&'a str>, Memory>
     ensures { IfOk result (λ keys. map (λ key. key.now) keys.items ≡ spec.keys_in json.now) }
 {
     match json {

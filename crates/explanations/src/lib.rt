@@ -13,5 +13,6 @@ mod text_lines;
 pub use broken::{MAX_DEPTH, NoJson};
 pub use explain::{explained, explained_fault, explained_scenario, explained_value};
 pub use how::How;
+pub use indexes::keys_in;
 pub use json_members::Spelling;
 pub use laws::worked_texts;

@@ -1,4 +1,5 @@
 mod PieceLemmas
 mod ReadingLemmas
+mod ReasonedLemmas
 mod SequenceLemmas
 mod LookLemmas

@@ -1,17 +1,21 @@
 //! Why a command refuses: a second look at its texts, made only once something is refused. The first text that isn't read is explained;
 //! where all are read it is the transaction that is refused, or the contract that has no table. It is written as lines for people, which
 //! stand behind the line of the refusal, each behind two blanks and ended by a line feed; or as members of a JSON object for tools.
+//! A run and a table can be explained as they are made, so that no text is read twice.
 #![tactic(auto)]
 
 mod looks;
 mod pieces;
 mod readers;
+mod reasoned;
 mod second_look;
 mod sequences;
 mod source;
 mod texts;
 
 pub use json_members::Spelling;
-pub use second_look::{reasons, table_reasons};
+pub use reasoned::{Reasoned, run_reasoned, table_reasoned};
+pub use second_look::{reasons, table_reasons, table_told, transaction_told};
+pub use sequences::read_told;
 pub use source::{Behind, Over, Source, Sources, text_if};
 pub use texts::scenario_reasons;

@@ -20,11 +20,11 @@ use json_read_names::{JsonFault, json_within};
 use json_tree::Json;
 use std::alloc::{AllocError, Global};
 
-/// What a text is read as, or why it isn't read.
+/// What a text is read as, or why it isn't read, with what tells so unless memory is refused for that.
 #[derive(Drop)]
 pub(crate) enum Look<X> {
     Read(X),
-    Told(Vec<u8>),
+    Told(JsonFault, Result<Vec<u8>, Memory>),
 }
 
 /// What reads a text.
@@ -57,8 +57,8 @@ pub(crate) fn look_at<X: Drop, R: TextReader<X>>(
         Ok(json) => value_look(alloc, source, reader, &json, how),
         Err(JsonFault::Memory) => Err(AllocError),
         Err(fault) => {
-            let written = explained_fault(alloc, source.path, source.text, fault, how)?;
-            Ok(Look::Told(written))
+            let written = explained_fault(alloc, source.path, source.text, fault, how);
+            Ok(Look::Told(fault, written))
         }
     }
 }
@@ -96,10 +96,24 @@ fn value_look<X: Drop, R: TextReader<X>>(
     match reader.read(alloc, json) {
         Ok(item) => Ok(Look::Read(item)),
         Err(JsonFault::Memory) => Err(AllocError),
-        Err(_) => {
-            let sort = reader.sort();
-            let written = explained_value(alloc, source.path, source.text, sort, json, how)?;
-            Ok(Look::Told(written))
+        Err(fault) => {
+            let written = value_told(alloc, source, reader, json, how);
+            Ok(Look::Told(fault, written))
         }
     }
+}
+
+// What is told of a JSON value, by the sort of the text.
+fn value_told<X: Drop, R: TextReader<X>>(
+    alloc: Global,
+    source: Source<'_>,
+    reader: &R,
+    json: &Json<'_>,
+    how: How,
+) -> Result<Vec<u8>, Memory>
+    requires { json_within how.depth source.text.now ≡ Ok (view json.now) }
+    ensures { IfOk result (λ written. TellsText how source.entry.path.now source.entry.text.now (R.sort reader.now) written.items) }
+{
+    let sort = reader.sort();
+    explained_value(alloc, source.path, source.text, sort, json, how)
 }

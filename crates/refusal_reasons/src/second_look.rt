@@ -18,7 +18,7 @@ use std::alloc::Global;
 /// Why a command refuses that reads a contract and then a state, if one is given, and has this behind them; `readable` tells which texts
 /// are read. It is written in lines or members. `Memory` where memory was refused; there are no bytes only where nothing is refused, or of
 /// too many transactions.
-#[tactic(auto, using(crate::proofs::ReadingLemmas::behind_read, crate::proofs::ReadingLemmas::unread_here))]
+#[tactic(auto, using(crate::proofs::ReadingLemmas::behind_read, crate::proofs::ReadingLemmas::unread_told))]
 pub fn reasons(
     alloc: Global,
     contract: Source<'_>,
@@ -39,12 +39,12 @@ pub fn reasons(
             let written = from_state(alloc, &whole, state, texts, behind, spelling);
             beside_dropped(whole, written)
         }
-        Look::Told(written) => Ok(written),
+        Look::Told(_, written) => written,
     }
 }
 
 // Then the state.
-#[tactic(auto, using(crate::proofs::ReadingLemmas::behind_read, crate::proofs::ReadingLemmas::unread_here))]
+#[tactic(auto, using(crate::proofs::ReadingLemmas::behind_read, crate::proofs::ReadingLemmas::unread_told))]
 fn from_state(
     alloc: Global,
     whole: &Contract,
@@ -67,7 +67,7 @@ fn from_state(
 }
 
 // .. one that is given.
-#[tactic(auto, using(crate::proofs::ReadingLemmas::behind_read, crate::proofs::ReadingLemmas::unread_here))]
+#[tactic(auto, using(crate::proofs::ReadingLemmas::behind_read, crate::proofs::ReadingLemmas::unread_told))]
 fn from_given(
     alloc: Global,
     whole: &Contract,
@@ -84,7 +84,7 @@ fn from_given(
             let written = from_behind(alloc, whole, &start, behind, spelling);
             beside_dropped(start, written)
         }
-        Look::Told(written) => Ok(written),
+        Look::Told(_, written) => written,
     }
 }
 
@@ -115,7 +115,7 @@ fn from_behind(
 }
 
 // One transaction.
-#[tactic(auto, using(crate::proofs::ReadingLemmas::behind_read, crate::proofs::ReadingLemmas::unread_here))]
+#[tactic(auto, using(crate::proofs::ReadingLemmas::behind_read, crate::proofs::ReadingLemmas::unread_told))]
 fn from_one(
     alloc: Global,
     whole: &Contract,
@@ -131,13 +131,13 @@ fn from_one(
             let written = transaction_told(alloc, whole, start, &transaction, spelling);
             beside_dropped(transaction, written)
         }
-        Look::Told(written) => Ok(written),
+        Look::Told(_, written) => written,
     }
 }
 
-// Why a transaction is refused, if it is.
+/// Why a transaction is refused, if it is; else there are no bytes.
 #[tactic(auto, using(crate::proofs::ReadingLemmas::any_written))]
-fn transaction_told(
+pub fn transaction_told(
     alloc: Global,
     whole: &Contract,
     start: &State,
@@ -162,7 +162,7 @@ pub(crate) fn written_if(alloc: Global, found: Option<Vec<u8>>) -> Vec<u8>
 }
 
 /// Why `table` refuses a contract, which isn't read or has no table. Its lists and objects may nest so deep.
-#[tactic(auto, using(crate::proofs::ReadingLemmas::behind_read, crate::proofs::ReadingLemmas::unread_here))]
+#[tactic(auto, using(crate::proofs::ReadingLemmas::behind_read, crate::proofs::ReadingLemmas::unread_told))]
 pub fn table_reasons(
     alloc: Global,
     contract: Source<'_>,
@@ -177,12 +177,13 @@ pub fn table_reasons(
             let written = table_told(alloc, &whole, spelling);
             beside_dropped(whole, written)
         }
-        Look::Told(written) => Ok(written),
+        Look::Told(_, written) => written,
     }
 }
 
+/// Why a contract has no table, if it has none; else there are no bytes.
 #[tactic(auto, using(crate::proofs::ReadingLemmas::any_written))]
-fn table_told(alloc: Global, whole: &Contract, spelling: Spelling) -> Result<Vec<u8>, Memory>
+pub fn table_told(alloc: Global, whole: &Contract, spelling: Spelling) -> Result<Vec<u8>, Memory>
     ensures { IfOk result (λ written. TellsTable spelling (contract_tree whole.now) written.items) }
 {
     let found = explain_tables::explained(alloc, whole, spelling)?;

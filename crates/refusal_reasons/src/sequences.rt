@@ -41,9 +41,10 @@ pub(crate) fn sequence_told(
     }
 }
 
-// .. once they are read.
+/// Why the first of transactions one after another is refused, from where those before it lead; or what is asked about behind all of them,
+/// if that is.
 #[tactic(auto, using(crate::proofs::SequenceLemmas::over_told, crate::proofs::SequenceLemmas::read_refused))]
-fn read_told(
+pub fn read_told(
     alloc: Global,
     whole: &Contract,
     start: &State,

@@ -1,5 +1,5 @@
 -- Worked rows, computed on the definitions.
-use Rattle.std.specs.Prelude.{◌≡◌, ℕ, ◌+◌, List, [], ◌∷◌, ◌++◌, length, replicate, codes}
+use Rattle.std.specs.Prelude.{◌≡◌, ℕ, List, [], ◌∷◌, ◌++◌, length, replicate, codes}
 use Rattle.text_spots.specs.Spots.{spot_at, mark}
 use Rattle.text_spots.specs.Shown.{shown, path_shown}
 

@@ -8,4 +8,4 @@ mod spots;
 
 pub use laws::worked_spots;
 pub use shown::{put_path_shown, text_shown};
-pub use spots::{Spot, spot_at};
+pub use spots::{Spot, spot_at, spot_from};

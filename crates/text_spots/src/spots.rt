@@ -1,5 +1,5 @@
 //! Lines and columns.
-ghost use Rattle.std.specs.Prelude.{◌≡◌, ◌<◌, ◌≤◌, ◌+◌, ◌^◌, take};
+ghost use Rattle.std.specs.Prelude.{◌≡◌, ◌<◌, ◌≤◌, ◌+◌, ◌^◌, length, take};
 ghost use Rattle.text_spots.specs.Spots.{begins_scalar, spot_at, spot_behind, without_mark};
 ghost use Rattle.text_spots.specs.SpotsSupport.{next_spot};
 
@@ -18,6 +18,33 @@ pub fn spot_at(text: &[u8], offset: usize) -> Spot
     ensures { result ≡ spot_at text.now offset }
 {
     spot_behind(without_mark(before(text, offset)))
+}
+
+/// The same, where the spot of the byte at another offset is known: if that comes first, only what lies between the two is counted.
+pub fn spot_from(text: &[u8], known: usize, spot: Spot, offset: usize) -> Spot
+    requires { spot ≡ spot_at text.now known }
+    ensures { result ≡ spot_at text.now offset }
+{
+    if known < 3 || offset < known || text.len() < offset {
+        spot_at(text, offset)
+    } else {
+        spot_on(text, known, spot, offset)
+    }
+}
+
+// .. from one that stands behind a mark that there may be, and not behind the other.
+fn spot_on(text: &[u8], known: usize, spot: Spot, offset: usize) -> Spot
+    requires spot { spot ≡ spot_at text.now known }
+    requires behind { 3 ≤ known }
+    requires before { known ≤ offset }
+    requires inside { offset ≤ length text.now }
+    ensures { result ≡ spot_at text.now offset }
+{
+    let mut here = spot;
+    for at in known..offset {
+        here = past(here, text[at]);
+    }
+    here
 }
 
 // The bytes before an offset.

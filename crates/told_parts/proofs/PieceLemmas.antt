@@ -8,6 +8,9 @@ use Rattle.std.proofs.lemmas.List.{take_more, take_all, take-map, flat_map_more,
 use Rattle.std.proofs.lemmas.List.Folds.{flat_map-map}
 use Rattle.text_spots.specs.Shown.{path_shown}
 use Rattle.json_stops.specs.declared.stop.Step.{Step}
+use Rattle.json_members.specs.Members.{first_member}
+use Rattle.told_parts.specs.Told.{Told}
+use Rattle.told_parts.specs.Members.{path_json, spot_members, what_members, hint_members, other_members, TextsHaveMore}
 use Rattle.told_parts.specs.Lines.{at_text, path_text, next_key_text, others_text, more_keys_text}
 
 -- two pieces, and more
@@ -21,8 +24,20 @@ pub four_pieces : {A : Type 0} (a b c d e x y z w : List A) → b ≡ a ++ x →
 four_pieces a b c d e x y z w f g h i = two_pieces a b e x (y ++ (z ++ w)) f (three_pieces b c d e y z w g h i)
 
 -- all there is
+pub three_in_all : {A : Type 0} (a b c d x y z : List A) → a ≡ [] → b ≡ a ++ x → c ≡ b ++ y → d ≡ c ++ z → d ≡ x ++ (y ++ z)
+three_in_all a b c d x y z n e f g = three_pieces a b c d x y z e f g ∙ ap (λ v. v ++ (x ++ (y ++ z))) n
+
 pub four_in_all : {A : Type 0} (a b c d e x y z w : List A) → a ≡ [] → b ≡ a ++ x → c ≡ b ++ y → d ≡ c ++ z → e ≡ d ++ w → e ≡ x ++ (y ++ (z ++ w))
 four_in_all a b c d e x y z w n f g h i = four_pieces a b c d e x y z w f g h i ∙ ap (λ v. v ++ (x ++ (y ++ (z ++ w)))) n
+
+-- what a text has more, around the pieces of a value
+around : {A : Type 0} (s c p w h o : List A) → (s ++ (c ++ p)) ++ (w ++ (h ++ o)) ≡ s ++ (c ++ ((p ++ (w ++ h)) ++ o))
+around s c p w h o =
+    append_assoc s (c ++ p) (w ++ (h ++ o))
+    ∙ ap (λ z. s ++ z) (append_assoc c p (w ++ (h ++ o)) ∙ ap (λ z. c ++ z) (sym (append_assoc p (w ++ h) o ∙ ap (λ z. p ++ z) (append_assoc w h o))))
+
+pub texts_have_more : TextsHaveMore
+texts_have_more file t = around (spot_members file t.spot) (codes ",") (first_member (codes "place") (path_json t.path)) (what_members t) (hint_members t) (other_members t)
 
 -- the first and the rest
 pub first_rest : {V X : Type 0} (f : V → X) (vs : List V) (d : V) → 1 ≤ length vs → f (get_or vs 0 d) ∷ map f (take (length vs - 1) (drop 1 vs)) ≡ map f vs

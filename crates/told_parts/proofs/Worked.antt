@@ -6,7 +6,7 @@ use lib.Utf8.{encode}
 use Rattle.json.proofs.OnLiterals.{json_on_literals}
 use Rattle.json_forms.specs.Spelling.{one_apart, two_apart}
 use Rattle.json_forms.specs.Lacking.{met, nearest}
-use Rattle.told_parts.specs.Rows.{MisspelledKeysAreTold, WordsAreTold, NumbersAreTold, BadStatesAreTold, MisspelledKeysAreMembers, QuotedNumbersAreMembers, RepeatedEntriesAreMembers, NamesAreMembers}
+use Rattle.told_parts.specs.Rows.{MisspelledKeysAreTold, WordsAreTold, NumbersAreTold, BadStatesAreTold, MisspelledKeysAreMembers, QuotedNumbersAreMembers, QuotedNumbersStandAlone, RepeatedEntriesAreMembers, NamesAreMembers}
 
 pub misspelled_keys_are_told : MisspelledKeysAreTold
 unfolding digits chars encode json_on_literals met nearest one_apart two_apart
@@ -31,6 +31,10 @@ misspelled_keys_are_members = refl
 pub quoted_numbers_are_members : QuotedNumbersAreMembers
 unfolding digits chars encode json_on_literals met nearest
 quoted_numbers_are_members = refl
+
+pub quoted_numbers_stand_alone : QuotedNumbersStandAlone
+unfolding digits chars encode json_on_literals met nearest
+quoted_numbers_stand_alone = refl
 
 pub repeated_entries_are_members : RepeatedEntriesAreMembers
 unfolding digits chars encode json_on_literals met nearest

@@ -86,6 +86,16 @@ other_members t = first_spot_member t.first ++ names_member (names_told t.sort t
 abbrev pub members_of : List ℕ → Told → List ℕ
 members_of file t = where_members file t ++ (what_members t ++ (hint_members t ++ other_members t))
 
+-- ---- without a text
+
+-- of a value whose text isn't known: there is no file, and there are no lines, no columns and no names
+abbrev pub part_members : Told → List ℕ
+part_members t = first_member (codes "place") (path_json t.path) ++ (what_members t ++ hint_members t)
+
+-- the members of a part of a text have these among them
+abbrev pub TextsHaveMore : Type 0
+TextsHaveMore = (file : List ℕ) (t : Told) → members_of file t ≡ spot_members file t.spot ++ (codes "," ++ (part_members t ++ other_members t))
+
 -- ---- the same as a JSON value
 
 -- what is there, before the rest

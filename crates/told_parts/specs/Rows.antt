@@ -10,7 +10,7 @@ use Rattle.json_forms.specs.declared.sort.ScenarioSort.TheVariants as parts
 use Rattle.json_stops.specs.declared.stop.Step.TheVariants as steps
 use Rattle.told_parts.specs.Told.{Told}
 use Rattle.told_parts.specs.Lines.{lines_of}
-use Rattle.told_parts.specs.Members.{members_of}
+use Rattle.told_parts.specs.Members.{members_of, part_members}
 
 abbrev pub AreLines : Told → List ℕ → Type 0
 AreLines t lines = lines_of (codes "contract.json") t ≡ lines
@@ -111,6 +111,11 @@ QuotedNumbersAreMembers =
     AreMembers quoted_time
     (codes
     "\"file\":\"contract.json\",\"line\":1,\"column\":22,\"place\":[\"timeout\"],\"wanted\":\"a time\",\"stands\":\"\\\"100\\\"\",\"hint\":\"a number stands without quotation marks\"")
+
+-- .. and without a text
+abbrev pub QuotedNumbersStandAlone : Type 0
+QuotedNumbersStandAlone =
+    part_members quoted_time ≡ codes "\"place\":[\"timeout\"],\"wanted\":\"a time\",\"stands\":\"\\\"100\\\"\",\"hint\":\"a number stands without quotation marks\""
 
 -- where the first entry stands
 abbrev pub RepeatedEntriesAreMembers : Type 0

@@ -1,6 +1,6 @@
 //! What is written: worked rows of the definitions and a law, each the contract of a function that does nothing.
-ghost use Rattle.told_parts.specs.Members.{ToldIsAnObject};
-ghost use Rattle.told_parts.specs.Rows.{MisspelledKeysAreTold, WordsAreTold, NumbersAreTold, BadStatesAreTold, MisspelledKeysAreMembers, QuotedNumbersAreMembers, RepeatedEntriesAreMembers, NamesAreMembers};
+ghost use Rattle.told_parts.specs.Members.{TextsHaveMore, ToldIsAnObject};
+ghost use Rattle.told_parts.specs.Rows.{MisspelledKeysAreTold, WordsAreTold, NumbersAreTold, BadStatesAreTold, MisspelledKeysAreMembers, QuotedNumbersAreMembers, QuotedNumbersStandAlone, RepeatedEntriesAreMembers, NamesAreMembers};
 
 /// Worked rows, each computed on the definitions.
 pub fn worked_lines()
@@ -14,6 +14,7 @@ pub fn worked_lines()
 pub fn worked_members()
     ensures misspelled { MisspelledKeysAreMembers }
     ensures quoted { QuotedNumbersAreMembers }
+    ensures alone { QuotedNumbersStandAlone }
     ensures repeated { RepeatedEntriesAreMembers }
     ensures names { NamesAreMembers }
 {}
@@ -22,4 +23,10 @@ pub fn worked_members()
 #[tactic(auto, using(crate::proofs::ObjectLemmas::told_is_an_object))]
 pub fn told_parts_are_objects()
     ensures { ToldIsAnObject }
+{}
+
+/// The members of a part of a text have those of its value among them.
+#[tactic(auto, using(crate::proofs::PieceLemmas::texts_have_more))]
+pub fn told_texts_have_more()
+    ensures { TextsHaveMore }
 {}

@@ -34,6 +34,17 @@ pub fn told_members(alloc: Global, file: &str, told: &Told<'_, '_>) -> Result<Ve
     Ok(out)
 }
 
+/// The same of a value whose text isn't known: without the file, lines and columns, and without names.
+pub fn part_members(alloc: Global, told: &Told<'_, '_>) -> Result<Vec<u8>, Memory>
+    ensures { IfOk result (λ members. members.items ≡ spec.part_members (seen told.now)) }
+{
+    let mut out = Vec::new(alloc);
+    put_first(alloc, &mut out, "place", &Path(told.path))?;
+    put_what(alloc, &mut out, told)?;
+    put_hint(alloc, &mut out, told)?;
+    Ok(out)
+}
+
 // ---- where
 
 fn put_where(

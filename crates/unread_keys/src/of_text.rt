@@ -1,7 +1,7 @@
 //! From a text to the members that aren't read.
-ghost use Rattle.std.specs.Prelude.{◌≡◌, [], None, Some, IfOk, MatchOption, map, take};
+ghost use Rattle.std.specs.Prelude.{◌≡◌, None, Some, IfOk, MatchOption, map, take};
 ghost use Rattle.json.specs.Value.{value_view};
-ghost use Rattle.unread_keys.specs.Unread.{document_within, note_of, notes, notes_in};
+ghost use Rattle.unread_keys.specs.Unread.{document_within, note_of, notes_in};
 
 use crate::unread::Unread;
 use crate::walk::first_unread;
@@ -24,7 +24,7 @@ pub fn unread_keys<'a>(
     ensures { IfOk result (λ keys. map note_of keys.items ≡ take most (notes_in depth text.now sort)) }
 {
     match tree_of(alloc, text, scratch, depth)? {
-        Some(json) => unread_in(alloc, text, &json, sort, most),
+        Some(json) => first_unread(alloc, &json, sort, most),
         None => Ok(Vec::new(alloc)),
     }
 }
@@ -51,18 +51,4 @@ fn tree_of<'a>(
         Err(Error::Invalid) => Ok(None),
         Err(Error::OutOfMemory | Error::TooLong | Error::DuplicateKey) => Err(AllocError),
     }
-}
-
-fn unread_in<'a>(
-    alloc: Global,
-    text: &str,
-    json: &Value<'a>,
-    sort: Sort,
-    most: usize,
-) -> Result<Vec<Unread<'a>>, Memory>
-    ensures { IfOk result (λ keys. map note_of keys.items ≡ take most (notes [] sort (value_view json.now))) }
-{
-    let mut scratch = Scratch::new(alloc);
-    let mut reader = Reader::new(text, &mut scratch)?;
-    first_unread(alloc, &mut reader, json, sort, most)
 }

@@ -26,8 +26,8 @@ pub struct Unread<'a> {
     pub path: Vec<Step>,
     /// Its index in the object, from 0.
     pub index: usize,
-    /// Where its key seems to begin in the text, from 0.
-    pub offset: usize,
+    /// How many tokens seem to stand before its key in the text.
+    pub tokens: usize,
     /// Its key.
     pub key: &'a str,
     /// Why it isn't read.

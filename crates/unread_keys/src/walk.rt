@@ -1,4 +1,4 @@
-//! The walk over the tree of a text, beside its tokens.
+//! The walk over the tree of a text, which counts the tokens that it passes.
 ghost use Rattle.std.specs.Prelude.{◌≡◌, ◌+◌, [], ◌∷◌, ◌++◌, drop, IfOk, OnOk, map, take};
 ghost use Rattle.json.specs.Value.{items_view, members_view, value_view};
 ghost use Rattle.unread_keys.specs.Sorts.{form_of, member_field};
@@ -8,7 +8,7 @@ ghost use Rattle.unread_keys.specs.UnreadSupport.{Gains};
 use crate::sorts::{form_of, item_sort, member_field};
 use crate::unread::{Step, Unread, Why};
 use collections::Memory;
-use json::{Reader, Value};
+use json::Value;
 use json_forms::{Form, Key, Sort};
 use std::alloc::Global;
 
@@ -21,11 +21,9 @@ pub(crate) struct Found<'a> {
     keys: Vec<Unread<'a>>,
 }
 
-/// The members that aren't read of a value, which is read as one of a sort: the first ones, at most `most`, in order. The reader has the
-/// tokens of the value: it tells where keys begin.
+/// The members that aren't read of a value, which is read as one of a sort: the first ones, at most `most`, in order.
 pub(crate) fn first_unread<'a>(
     alloc: Global,
-    reader: &mut Reader<'_>,
     json: &Value<'a>,
     sort: Sort,
     most: usize,
@@ -35,7 +33,8 @@ pub(crate) fn first_unread<'a>(
     let path = Vec::new(alloc);
     let keys = Vec::new(alloc);
     let mut found = Found { most, path, keys };
-    walk(alloc, reader, &mut found, sort, json)?;
+    let mut passed: usize = 0;
+    walk(alloc, &mut passed, &mut found, sort, json)?;
     Ok(kept(found))
 }
 
@@ -46,11 +45,11 @@ fn kept<'a>(found: Found<'a>) -> Vec<Unread<'a>>
     keys
 }
 
-// Of a value, at which the reader stands.
+// Of a value, before which so many tokens were passed.
 #[cycle(walk)]
 fn walk<'a>(
     alloc: Global,
-    reader: &mut Reader<'_>,
+    passed: &mut usize,
     found: &mut Found<'a>,
     sort: Sort,
     json: &Value<'a>,
@@ -58,10 +57,10 @@ fn walk<'a>(
     ensures { OnOk result (Gains found.old found.new (notes found.old.path.items sort (value_view json.now))) }
 {
     match json {
-        Value::Array(items) => walk_list(alloc, reader, found, sort, items),
-        Value::Object(members) => walk_object(alloc, reader, found, sort, members),
+        Value::Array(items) => walk_list(alloc, passed, found, sort, items),
+        Value::Object(members) => walk_object(alloc, passed, found, sort, members),
         Value::Null | Value::Bool(_) | Value::Number(_) | Value::String(_) => {
-            pass_token(reader);
+            pass_token(passed);
             Ok(())
         }
     }
@@ -71,16 +70,16 @@ fn walk<'a>(
 #[cycle(walk)]
 fn walk_list<'a>(
     alloc: Global,
-    reader: &mut Reader<'_>,
+    passed: &mut usize,
     found: &mut Found<'a>,
     sort: Sort,
     items: &Vec<Value<'a>>,
 ) -> Result<(), Memory>
     ensures { OnOk result (Gains found.old found.new (items_notes found.old.path.items sort 0 (items_view items.now.items))) }
 {
-    pass_token(reader);
-    walk_items(alloc, reader, found, sort, items.as_slice())?;
-    pass_token(reader);
+    pass_token(passed);
+    walk_items(alloc, passed, found, sort, items.as_slice())?;
+    pass_token(passed);
     Ok(())
 }
 
@@ -88,7 +87,7 @@ fn walk_list<'a>(
 #[cycle(walk)]
 fn walk_items<'a>(
     alloc: Global,
-    reader: &mut Reader<'_>,
+    passed: &mut usize,
     found: &mut Found<'a>,
     sort: Sort,
     items: &[Value<'a>],
@@ -96,7 +95,7 @@ fn walk_items<'a>(
     ensures { OnOk result (Gains found.old found.new (items_notes found.old.path.items sort 0 (items_view items.now))) }
 {
     for (index, item) in items.iter().enumerate() {
-        walk_item(alloc, reader, found, item_sort(sort, index), index, item)?;
+        walk_item(alloc, passed, found, item_sort(sort, index), index, item)?;
     }
     Ok(())
 }
@@ -104,7 +103,7 @@ fn walk_items<'a>(
 #[cycle(walk)]
 fn walk_item<'a>(
     alloc: Global,
-    reader: &mut Reader<'_>,
+    passed: &mut usize,
     found: &mut Found<'a>,
     sort: Option<Sort>,
     index: usize,
@@ -114,9 +113,9 @@ fn walk_item<'a>(
         (inside sort (λ s. notes (found.old.path.items ++ Step.Item index ∷ []) s (value_view item.now)))) }
 {
     match sort {
-        Some(sort) => walk_inside(alloc, reader, found, sort, Step::Item(index), item),
+        Some(sort) => walk_inside(alloc, passed, found, sort, Step::Item(index), item),
         None => {
-            pass_value(reader);
+            pass_value(passed, item);
             Ok(())
         }
     }
@@ -127,7 +126,7 @@ fn walk_item<'a>(
 #[tactic(auto, using(crate::proofs::GainLemmas::gains_inside))]
 fn walk_inside<'a>(
     alloc: Global,
-    reader: &mut Reader<'_>,
+    passed: &mut usize,
     found: &mut Found<'a>,
     sort: Sort,
     step: Step,
@@ -136,7 +135,7 @@ fn walk_inside<'a>(
     ensures { OnOk result (Gains found.old found.new (notes (found.old.path.items ++ step ∷ []) sort (value_view json.now))) }
 {
     found.path.push(step)?;
-    walk(alloc, reader, found, sort, json)?;
+    walk(alloc, passed, found, sort, json)?;
     let _ = found.path.pop();
     Ok(())
 }
@@ -145,7 +144,7 @@ fn walk_inside<'a>(
 #[cycle(walk)]
 fn walk_object<'a>(
     alloc: Global,
-    reader: &mut Reader<'_>,
+    passed: &mut usize,
     found: &mut Found<'a>,
     sort: Sort,
     members: &Vec<(&'a str, Value<'a>)>,
@@ -156,9 +155,9 @@ fn walk_object<'a>(
     let members = members.as_slice();
     let keys = keys_of(alloc, members)?;
     let keys = keys.as_slice();
-    pass_token(reader);
-    walk_members(alloc, reader, found, form_of(sort, keys), keys, members)?;
-    pass_token(reader);
+    pass_token(passed);
+    walk_members(alloc, passed, found, form_of(sort, keys), keys, members)?;
+    pass_token(passed);
     Ok(())
 }
 
@@ -166,7 +165,7 @@ fn walk_object<'a>(
 #[cycle(walk)]
 fn walk_members<'a>(
     alloc: Global,
-    reader: &mut Reader<'_>,
+    passed: &mut usize,
     found: &mut Found<'a>,
     form: Option<Form>,
     keys: &[&str],
@@ -178,7 +177,7 @@ fn walk_members<'a>(
     for (index, member) in members.iter().enumerate() {
         walk_member(
             alloc,
-            reader,
+            passed,
             found,
             form,
             behind(keys, index),
@@ -194,7 +193,7 @@ fn walk_members<'a>(
 #[cycle(walk)]
 fn walk_member<'a>(
     alloc: Global,
-    reader: &mut Reader<'_>,
+    passed: &mut usize,
     found: &mut Found<'a>,
     form: Option<Form>,
     later: &[&str],
@@ -208,7 +207,7 @@ fn walk_member<'a>(
 {
     walk_read(
         alloc,
-        reader,
+        passed,
         found,
         member_field(form, key, later),
         index,
@@ -221,7 +220,7 @@ fn walk_member<'a>(
 #[cycle(walk)]
 fn walk_read<'a>(
     alloc: Global,
-    reader: &mut Reader<'_>,
+    passed: &mut usize,
     found: &mut Found<'a>,
     read_as: Result<(Key, Sort), Why>,
     index: usize,
@@ -231,13 +230,13 @@ fn walk_read<'a>(
     ensures { OnOk result (Gains found.old found.new (inside_or read_as found.old.path.items index key.now
         (λ field. notes (found.old.path.items ++ Step.Key field.0 ∷ []) field.1 (value_view value.now)))) }
 {
-    let offset = reader.offset();
-    pass_token(reader);
+    let tokens = *passed;
+    pass_token(passed);
     match read_as {
-        Ok((key, sort)) => walk_inside(alloc, reader, found, sort, Step::Key(key), value),
+        Ok((key, sort)) => walk_inside(alloc, passed, found, sort, Step::Key(key), value),
         Err(why) => {
-            pass_value(reader);
-            found.put(alloc, index, offset, key, why)
+            pass_value(passed, value);
+            found.put(alloc, index, tokens, key, why)
         }
     }
 }
@@ -248,7 +247,7 @@ impl<'a> Found<'a> {
         &mut self,
         alloc: Global,
         index: usize,
-        offset: usize,
+        tokens: usize,
         key: &'a str,
         why: Why,
     ) -> Result<(), Memory>
@@ -262,7 +261,7 @@ impl<'a> Found<'a> {
         self.keys.push(Unread {
             path,
             index,
-            offset,
+            tokens,
             key,
             why,
         })?;
@@ -299,12 +298,43 @@ fn behind<'k, 'a>(keys: &'k [&'a str], index: usize) -> &'k [&'a str]
     }
 }
 
-// The reader goes on behind the next token.
-fn pass_token(reader: &mut Reader<'_>) {
-    let _ = reader.next();
+// One token is passed.
+fn pass_token(passed: &mut usize) {
+    *passed = passed.saturating_add(1);
 }
 
-// The reader goes on behind the next value.
-fn pass_value(reader: &mut Reader<'_>) {
-    let _ = reader.skip_value(usize::MAX);
+// All tokens of a value are passed.
+fn pass_value(passed: &mut usize, json: &Value<'_>) {
+    *passed = passed.saturating_add(token_count(json));
+}
+
+#[cycle(token_count)]
+fn token_count(json: &Value<'_>) -> usize {
+    match json {
+        Value::Array(items) => item_tokens(items.as_slice()),
+        Value::Object(members) => member_tokens(members.as_slice()),
+        Value::Null | Value::Bool(_) | Value::Number(_) | Value::String(_) => 1,
+    }
+}
+
+// Those of a list, with its brackets.
+#[cycle(token_count)]
+fn item_tokens(items: &[Value<'_>]) -> usize {
+    let mut count: usize = 2;
+    for item in items {
+        count = count.saturating_add(token_count(item));
+    }
+    count
+}
+
+// Those of an object, with its brackets and keys.
+#[cycle(token_count)]
+fn member_tokens(members: &[(&str, Value<'_>)]) -> usize {
+    let mut count: usize = 2;
+    for member in members {
+        count = count
+            .saturating_add(1)
+            .saturating_add(token_count(&member.1));
+    }
+    count
 }

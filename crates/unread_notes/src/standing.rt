@@ -8,40 +8,41 @@ ghost use Rattle.unread_notes.specs.Notes.{KeyStands};
 
 use collections::Memory;
 use json::{Reader, Scratch, Token};
-use std::alloc::Global;
 
-/// The offset, if the text goes on with the key there, or else the end of the text.
+/// Where a reader that has taken so many tokens stands once it has taken others, up to so many.
+pub(crate) fn offset_behind(reader: &mut Reader<'_>, taken: usize, wanted: usize) -> usize {
+    for _ in taken..wanted {
+        let _ = reader.next();
+    }
+    reader.offset()
+}
+
+/// The offset, if the text goes on with the key there, or else the end of the text. `scratch` serves one text after another.
 pub(crate) fn sure_offset(
-    alloc: Global,
-    text: &[u8],
+    scratch: &mut Scratch,
+    text: &str,
     offset: usize,
     key: &str,
 ) -> Result<usize, Memory>
     ensures { IfOk result (λ n. KeyStands text.now n key.now) }
 {
-    let stands = begins_with(alloc, behind(text, offset), key)?;
+    let stands = stands_at(scratch, text, offset, key)?;
     if stands { Ok(offset) } else { Ok(text.len()) }
 }
 
-// The bytes from an offset on.
-fn behind(text: &[u8], offset: usize) -> &[u8]
-    ensures { result.now ≡ drop offset text.now }
+fn stands_at(scratch: &mut Scratch, text: &str, offset: usize, key: &str) -> Result<bool, Memory>
+    ensures { IfOk result (λ yes. yes ≡ true → first_token (tokens (drop offset text.now)) ≡ Some (key_token key.now)) }
 {
-    if offset < text.len() {
-        &text[offset..]
-    } else {
-        &[]
+    match text.split_at_checked(offset) {
+        Some((_, rest)) => begins_with(scratch, rest, key),
+        None => Ok(false),
     }
 }
 
-fn begins_with(alloc: Global, rest: &[u8], key: &str) -> Result<bool, Memory>
+fn begins_with(scratch: &mut Scratch, rest: &str, key: &str) -> Result<bool, Memory>
     ensures { IfOk result (λ yes. yes ≡ true → first_token (tokens rest.now) ≡ Some (key_token key.now)) }
 {
-    let Ok(characters) = std::str::from_utf8(rest) else {
-        return Ok(false);
-    };
-    let mut scratch = Scratch::new(alloc);
-    let mut reader = Reader::new(characters, &mut scratch)?;
+    let mut reader = Reader::new(rest, scratch)?;
     match reader.next() {
         Some(first) => Ok(is_key(first, key)),
         None => Ok(false),

@@ -2,7 +2,7 @@ use Rattle.std.proofs.Common.{◌+◌, ◌<◌, ◌≤◌, ap, sym, subst, ◌�
 use Rattle.contract.specs.declared.tree.Case.{Case}
 use Rattle.contract.specs.Tree.{ContractTree, contract_tree}
 use Rattle.table.specs.Heights.{contract_height}
-use Rattle.explain_tables.specs.declared.depths.High.{High}
+use Rattle.explain_tables.specs.declared.branches.Branch.{Branch}
 use Rattle.explain_tables.proofs.DepthLemmas.{behind_at, low_more, low_all}
 use Rattle.explain_tables.proofs.depths.high_case.Goals as goal
 
@@ -11,9 +11,9 @@ returns-in-Some c =
     let e = sym c.in-Some.ensures.0 in
     let at = behind_at c.args.cases.now c.loop-index.index c.index-cases-index.result (omega (arith, c.loop-index-test.true)) c.index-cases-index.is in (
       c.loop-index.index,
-      ap (λ (h : High). h.step) (sym e),
-      at ∙ ap (λ (k : Case). let o : Option ContractTree = Some (contract_tree k.then) in o) c.index-cases-index.is ∙ ap (λ (h : High). let o : Option ContractTree = Some (contract_tree h.part.now) in o) e,
-      subst (λ (h : High). c.args.room < 2 + contract_height (contract_tree h.part.now)) e c.in-Some.ensures.1,
+      ap (λ (h : Branch). h.step) (sym e),
+      at ∙ ap (λ (k : Case). let o : Option ContractTree = Some (contract_tree k.then) in o) c.index-cases-index.is ∙ ap (λ (h : Branch). let o : Option ContractTree = Some (contract_tree h.part.now) in o) e,
+      subst (λ (h : Branch). c.args.room < 2 + contract_height (contract_tree h.part.now)) e c.in-Some.ensures.1,
     )
 
 pub loop-index-preserved : goal.loop-index-preserved

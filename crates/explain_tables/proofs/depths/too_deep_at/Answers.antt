@@ -11,7 +11,7 @@ returns-then-down-room c =
     let h = c.in-Some.ensures in
     rw c.in_ok-push.ensures.added
     (too_deep_below (contract_tree c.args.contract.now) (contract_tree c.way.at.now) (contract_tree c.in-Some.high.part.now) c.way.path c.in-Some.high.step c.way.room v.stands v.levels h.0 h.1
-    (omega (arith, c.if-down-room.true, c.levels-down.ensures)))
+    (omega (arith, c.if-down-room.true, c.levels-down.ensures.levels)))
 
 pub way-preserved : goal.way-preserved
 way-preserved c =
@@ -23,6 +23,6 @@ way-preserved c =
     let q = levels_more c.way.path c.in-Some.high.step in
     record {
       stands = ap (part_along root) e ∙ along_more root (contract_tree c.way.at.now) (contract_tree c.in-Some.high.part.now) c.way.path c.in-Some.high.step v.stands h.0;
-      levels = omega (arith, m, q, v.levels, c.levels-down.ensures, c.if-down-room.false);
-      high = omega (arith, h.1, c.levels-down.ensures, c.if-down-room.false);
+      levels = omega (arith, m, q, v.levels, c.levels-down.ensures.levels, c.if-down-room.false);
+      high = omega (arith, h.1, c.levels-down.ensures.levels, c.if-down-room.false);
     }

@@ -1,4 +1,4 @@
-use Rattle.std.proofs.Common.{chars, string_bytes, arith, ◌∙◌, sym}
+use Rattle.std.proofs.Common.{chars, string_bytes, arith}
 use Rattle.std.proofs.lemmas.Iterator.{YieldsList-from_chars}
 use Rattle.std.proofs.lemmas.Iterator.Consumers.{YieldsList-turn, YieldsList-so_far, YieldsList-end}
 use Rattle.std.proofs.lemmas.List.{length_push}

@@ -1,4 +1,4 @@
-use Rattle.std.proofs.Common.{◌≡◌, ap, sym, ◌∙◌, arith, get_or}
+use Rattle.std.proofs.Common.{ap, sym, ◌∙◌, arith, get_or}
 use Rattle.std.proofs.lemmas.List.{take_all}
 use Rattle.text_spots.specs.Spots.{spot_behind}
 use Rattle.text_spots.specs.SpotsSupport.{next_spot}
