@@ -242,8 +242,8 @@ LINES = {part: lines(part) for part in [program for program in ROWS if (TOP / "c
 ANSWERS = {program: [line[2:].removeprefix("stderr ") for line in rows if line.startswith("= ")] for program, rows in LINES.items()}
 # What `rows_serve` prints, line by line.
 ANSWERS["rows_serve"] = read(TOP / "crates/rows_serve/stdout").splitlines()
-# `marlowe_commands` is what the command lines of rows_commands call.
-RUN = code(ROWS + TESTS + ["marlowe_commands"])
+# `marlowe_commands` is what the command lines of rows_commands call. The name of a function where it is defined is no call.
+RUN = re.sub(r"\bfn \w+", "fn", code(ROWS + TESTS + ["marlowe_commands"]))
 TESTED = code(TESTS)
 
 

@@ -323,7 +323,7 @@ STREAM = TOP / "crates" / "rows_serve"
 REQUESTS = ["run", "trace", "next", "table", "analyse", "play", "read", "bytes", "define", "forget"]
 OF_REQUESTS = {
     "run": "outcome.json", "trace": "answer.json#/definitions/outcomes", "next": "next.json", "table": "table.json", "analyse": "analysis.json",
-    "bytes": "answer.json#/definitions/bytes", "define": "answer.json#/definitions/truth", "forget": "answer.json#/definitions/truth",
+    "play": "answer.json#/definitions/played", "bytes": "answer.json#/definitions/bytes", "define": "answer.json#/definitions/truth", "forget": "answer.json#/definitions/truth",
 }
 OF_READ = {"contract": "contract.json", "state": "state_with_texts.json", "transaction": "transaction.json", "input": "input.json"}
 
@@ -357,9 +357,18 @@ def faults_of_answer(line, answer):
         yield f"request.json: {line[:400]}: has a form and is refused as {answer['refused']['name']}"
 
 
+def lines_and_answers():
+    """The lines of streams, each with its answer: those of rows_serve, and of the rows of `marlowe serve`."""
+    yield from zip((STREAM / "stdin").read_text().split("\n"), (STREAM / "stdout").read_text().split("\n"))
+    given = rows.Given()
+    for line, written in rows.answered((DATA / "standard_input.txt").read_text().splitlines()):
+        word, _, rest = line.partition(" ")
+        if not given.keeps(word, rest) and line.startswith("marlowe serve") and "--help" not in line:
+            yield from zip(given.files["-"].decode().split("\n"), rows.output_of(written))
+
+
 def faults_of_stream(counts):
-    lines = (STREAM / "stdin").read_text().split("\n")
-    for line, text in zip(lines, (STREAM / "stdout").read_text().split("\n")):
+    for line, text in lines_and_answers():
         answer = json.loads(text)
         counts[f"a stream: {'ok' if 'ok' in answer else 'refused'}"] += 1
         yield from faults_of_answer(line, answer)

@@ -1,6 +1,7 @@
 #!/usr/bin/env python3
 """Asks `marlowe serve` random requests by one stream, names that come and go among them, and compares each answer with one worked out apart: outcomes by
-the interpreter beside this file, canonical texts by Python's own JSON, bytes by ledger.py. Of each stream some requests are also given to the command, and compared with what it prints.
+the interpreter beside this file, plays by plays.py, canonical texts by Python's own JSON, bytes by ledger.py. Of each stream some requests are also given to the
+command, and compared with what it prints; so are plays whose setup may be refused.
 
 Needs    (cd crates/marlowe && rt run -- --version)
 Usage    serve.py [--requests N] [--seed S] [--commands N] [--jobs N] [PROGRAM WORDS..]
@@ -12,14 +13,16 @@ Else     `differs` with the request, what was wanted and what came, and status 1
 import collections, hashlib, json, multiprocessing, os, random, subprocess, sys, tempfile
 HERE = os.path.dirname(os.path.abspath(__file__))
 sys.path.insert(0, HERE)
-import compare, ledger, transactions
+import compare, ledger, plays, random_scenarios, transactions
 from interpreter import printed
 MARLOWE = os.environ.get("MARLOWE") or os.path.join(HERE, "..", "crates", "marlowe", "out", "marlowe")
 R = random.Random()
 IDS = [7, -1, "a", "\u00e9\n", None, True, [1, {"b": 1, "a": []}], {}, 2**63]
 NAMES = ["deal", "x", "", "\u00e9"]
 BATCH = 2_000
-def text(value): return json.dumps(value, separators=(",", ":"), sort_keys=True, ensure_ascii=False)
+class Told(list):
+    """What is told of a play: objects whose keys stay in their order."""
+def text(value): return json.dumps(value, separators=(",", ":"), sort_keys=not isinstance(value, Told), ensure_ascii=False)
 def refused(of, name, **more): return {"refused": {"of": of, "name": name, **more}}
 def outcome(parts):
     """What is told of a run: the outcome, or why there is none."""
@@ -39,12 +42,30 @@ def traced(contract, state, transaction):
     if second is None: return [transaction], {"ok": [first["ok"]]}
     told = {"ok": [first["ok"], second["ok"]]} if "ok" in second else {"ok": [first["ok"]], "refused": {**second["refused"], "number": 2}}
     return [transaction, transaction], told
+def scenario():
+    """A random scenario, which may have faults, or be another value."""
+    kept = compare.R
+    try:
+        while True:
+            try: return json.loads(random_scenarios.text(str(R.random()), plays.Play))
+            except ValueError: pass
+    finally: compare.R = kept
+def played():
+    """A scenario whose setup isn't refused, and what is told of it."""
+    while True:
+        value = scenario()
+        lines, why, status = plays.wanted(json.dumps(value).encode(), "json")
+        if not status: return value, {"ok": Told(json.loads(line) for line in lines.split("\n")[:-1])}
+        if why.startswith("refused scenario "): return value, refused("scenario", why.split()[2])
 def fits(state):
     """Whether all numbers of a written state are numbers, so that the interpreter takes it."""
     return all(isinstance(row[1], int) for key in ("accounts", "choices", "boundValues") for row in state[key])
 def request(named, number):
     """A line, and the answer to it."""
     if R.random() < 0.05: return bad_line(number)
+    if R.random() < 0.01:
+        value, told = played()
+        return json.dumps({"id": number, "play": {"scenario": value}}, separators=(",", ":")), {"id": number, **told}
     contract, state, transaction = compare.case()
     key, sort = R.choice(IDS), R.randrange(10)
     line, name = {"id": key} if key is not None or R.random() < 0.5 else {}, R.choice(NAMES)
@@ -78,7 +99,8 @@ def encoded(contract):
 def others(contract, state, transaction):
     """Requests whose answers only the command has."""
     parts = {"contract": contract, "state": state}
-    sort = R.randrange(3)
+    sort = R.randrange(4)
+    if sort == 3: return {"play": {"scenario": scenario()}}
     if sort == 0: return {"next": {**parts, "after": [transaction] * R.randrange(2), **R.choice([{}, {"from": 3}, {"from": 3, "to": 9}])}}
     return {"table": {"contract": contract}} if sort == 1 else {"analyse": {**parts, "no_runs": R.random() < 0.5, "notes": R.random() < 0.5}}
 class Differs(Exception): pass
@@ -90,6 +112,7 @@ def asked(words, lines):
 def differs(line, want, got): raise Differs(f"\nasked {line}\nwant  {want if isinstance(want, str) else text(want)}\ngot   {got}")
 def words_of(name, body, path):
     """The command that asks the same, its parts in files."""
+    if name == "play": return [MARLOWE, "play", path("scenario"), "--one", "--json"]
     words = [name, path("contract")]
     if name == "run": words += [path("state"), path("transaction")]
     if name == "next": words += [path("state")]
@@ -101,17 +124,20 @@ def words_of(name, body, path):
 def by_command(line, answer):
     """The same by the command, as it prints JSON."""
     asked, told = json.loads(line), json.loads(answer)
-    name = next(key for key in ("run", "trace", "next", "table", "analyse") if key in asked)
+    name = next(key for key in ("run", "trace", "next", "table", "analyse", "play") if key in asked)
     body = asked[name]
     with tempfile.TemporaryDirectory() as folder:
         def path(key):
             with open(os.path.join(folder, key), "w") as file: json.dump(body[key], file)
             return file.name
-        run = subprocess.run(words_of(name, body, path), capture_output=True, text=True)
+        run = subprocess.run(words_of(name, body, path), capture_output=True, encoding="utf-8")
     printed = [json.loads(it) for it in run.stdout.split("\n")[:-1]]
     want = {}
-    if printed and "refused" in printed[-1]: want["refused"] = {key: it for key, it in printed.pop()["refused"].items() if key in ("of", "name", "number")}
-    if name == "trace" and (printed or want.get("refused", {}).get("number")): want["ok"] = printed
+    if printed and "refused" in printed[-1]:
+        why = printed.pop()["refused"]
+        want["refused"] = {key: it for key, it in why.items() if why["of"] == "setup" or key in ("of", "name", "number")}
+    if name == "play" and printed: want["ok"] = printed
+    elif name == "trace" and (printed or want.get("refused", {}).get("number")): want["ok"] = printed
     elif printed: want["ok"] = printed[0]
     if {**want, "id": told["id"]} != told: differs(line, want, answer)
 def stream(given):

@@ -1,11 +1,11 @@
 //! The lines of a stream, one after another.
-ghost use Rattle.std.specs.Prelude.{◌≡◌, ◌≢◌, [], ◌++◌, ℕ, List, true, false, Ok, Err, IfOk, OnOk, OnErr};
+ghost use Rattle.std.specs.Prelude.{◌≡◌, [], ◌++◌, ℕ, List, true, false, IfOk, OnOk, OnErr};
 ghost use Rattle.std.specs.Io.KnownBytes.{Consumes, IsAtEnd};
 ghost use Rattle.lines_in.specs.Lines.{lines_of};
 ghost use Rattle.lines_in.specs.Held.{Held, come, told};
 
 use crate::feed::first_feed;
-use crate::parts::{Step, grow, is_begun, take};
+use crate::parts::{LONGEST_LINE, Step, begin, ended, grow, is_begun};
 use marlowe_io::{Source, SourceFault};
 use std::alloc::{AllocError, Global};
 use std::marker::Model;
@@ -16,10 +16,10 @@ const PIECE: usize = 65_536;
 /// What has been read of a stream and not yet been given. Clauses see what it holds: `come` has the lines that are still to come of it.
 #[derive(Drop)]
 pub struct Lines {
-    alloc: Global,
-    // The line so far, which stays empty where it is too long.
+    // The line so far, which stays empty where it is too long, with room for the longest; or the line that was given last.
     line: Vec<u8>,
     is_long: bool,
+    is_given: bool,
     // What was read last, and the part of it that is behind the line so far.
     piece: Vec<u8>,
     start: usize,
@@ -29,24 +29,25 @@ pub struct Lines {
 }
 
 impl Model for Lines {
-    ghost use Rattle.std.specs.Prelude.{◌≡◌, ◌≤◌, ◌-◌, take, drop, vec_len};
+    ghost use Rattle.std.specs.Prelude.{◌≡◌, ◌≤◌, ◌-◌, take, drop, vec_len, vec_capacity};
     ghost use Rattle.lines_in.specs.Lines.{longest_line};
-    ghost use Rattle.lines_in.specs.Held.{Held};
+    ghost use Rattle.lines_in.specs.Held.{Held, so_far};
 
     ghost Value = { Held };
 
     ghost view = { λ a. record {
       is_long = a.is_long;
-      line = a.line.items;
+      line = so_far a.is_given a.line.items;
       piece = take (a.end - a.start) (drop a.start a.piece.items);
       has_ended = a.has_ended;
+      given = a.line.items;
     } };
 
-    ghost invariant = { λ a. (vec_len a.line ≤ longest_line) × (vec_len a.piece ≡ 65536) × (a.start ≤ a.end) × (a.end ≤ 65536) };
+    ghost invariant = { λ a. (vec_len a.line ≤ longest_line) × (longest_line ≤ vec_capacity a.line) × (vec_len a.piece ≡ 65536) × (a.start ≤ a.end) × (a.end ≤ 65536) };
 }
 
 impl Lines {
-    /// Nothing has been read yet.
+    /// Nothing has been read yet. All room that lines take is taken here.
     pub fn new(alloc: Global) -> Result<Lines, AllocError>
         ensures first { IfOk result (λ held. (bytes : List ℕ) → come held bytes ≡ lines_of bytes) }
         ensures open { IfOk result (λ held. held.has_ended ≡ false) }
@@ -54,9 +55,9 @@ impl Lines {
         let mut piece = Vec::new(alloc);
         piece.resize(PIECE, 0u8)?;
         Ok(Lines {
-            alloc,
-            line: Vec::new(alloc),
+            line: Vec::with_capacity(alloc, LONGEST_LINE)?,
             is_long: false,
+            is_given: false,
             piece,
             start: 0,
             end: 0,
@@ -64,38 +65,48 @@ impl Lines {
         })
     }
 
-    /// The next line of what has been read. Where none has come whole, more is to be read, by `fill`, or there is none.
-    /// Where memory is refused, nothing is known of the lines that come.
-    pub fn step(&mut self) -> Result<Step, AllocError>
-        ensures lines { IfOk result (λ step. (rest : List ℕ) → (self.old.has_ended ≡ true → rest ≡ [])
-            → come self.old rest ≡ told step ++ come self.new rest) }
-        ensures more { result ≡ Ok Step.More → (self.old.has_ended ≡ false) × (self.new.piece ≡ []) }
-        ensures end { result ≡ Ok Step.End → (self.old.has_ended ≡ true) × (come self.new [] ≡ []) }
-        ensures open { OnOk result (self.new.has_ended ≡ self.old.has_ended) }
+    /// The next line of what has been read, which `line` lends. Where none has come whole, more is to be read, by `fill`, or there is none.
+    pub fn step(&mut self) -> Step
+        ensures lines { (rest : List ℕ) → (self.old.has_ended ≡ true → rest ≡ [])
+            → come self.old rest ≡ told result self.new.given ++ come self.new rest }
+        ensures more { result ≡ Step.More → (self.old.has_ended ≡ false) × (self.new.piece ≡ []) }
+        ensures end { result ≡ Step.End → (self.old.has_ended ≡ true) × (come self.new [] ≡ []) }
+        ensures open { self.new.has_ended ≡ self.old.has_ended }
     {
+        begin(&mut self.line, self.is_given);
+        self.is_given = false;
         let held = &self.piece[self.start..self.end];
         match first_feed(held) {
             Some(count) => {
-                let is_long = grow(&mut self.line, self.is_long, &held[..count])?;
+                let is_long = grow(&mut self.line, self.is_long, &held[..count]);
                 self.start = self.start + count + 1;
                 self.is_long = false;
-                Ok(take(self.alloc, &mut self.line, is_long))
+                self.is_given = true;
+                ended(&self.line, is_long)
             }
             None => {
-                let is_long = grow(&mut self.line, self.is_long, held)?;
+                let is_long = grow(&mut self.line, self.is_long, held);
                 self.start = self.end;
                 self.is_long = is_long;
                 if !self.has_ended {
-                    return Ok(Step::More);
+                    return Step::More;
                 }
                 let begun = is_begun(self.line.as_slice(), is_long);
                 if !begun {
-                    return Ok(Step::End);
+                    return Step::End;
                 }
                 self.is_long = false;
-                Ok(take(self.alloc, &mut self.line, is_long))
+                self.is_given = true;
+                ended(&self.line, is_long)
             }
         }
+    }
+
+    /// The line that was given last, until the next step.
+    pub fn line(&self) -> &[u8]
+        ensures { result.now ≡ self.now.given }
+    {
+        self.line.as_slice()
     }
 
     /// Reads more, once all that was read has been gone through: the lines that are to come stay the same. The source may not have failed.

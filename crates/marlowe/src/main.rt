@@ -15,10 +15,9 @@ mod progress;
 use crate::files::HostFiles;
 use crate::progress::Progress;
 use marlowe_cli::{WordsFault, words};
-use marlowe_commands::{Command, Printed, STACK, command};
+use marlowe_commands::{Command, Ended, Printed, STACK, command, serve_in_turn};
 use marlowe_io::{ReaderSource, emit_output, output};
 use marlowe_run::Readable;
-use serve::{Ended, serve};
 use std::io::IsTerminal;
 use std::process::ExitCode;
 use std::rt::{Clock, Env, Files, Stderr};
@@ -77,11 +76,15 @@ fn tell(output: &impl Print, errors: &impl Print, printed: Printed) -> u8 {
 }
 
 // Answers the requests that come on standard input, until they end, and gives the status.
-fn answer<R: AllocGlobal + Input + Print>(rt: &R, errors: &impl Print, readable: Readable) -> u8
+fn answer<R: AllocGlobal + Input + Print + Sync + Threads + Wait>(
+    rt: &R,
+    errors: &impl Print,
+    readable: Readable,
+) -> u8
     requires { readable.depth ≤ 4000 }
 {
     let mut requests = ReaderSource::new(rt.reader());
-    match serve(rt.alloc(), readable, &mut requests, &mut output(rt)) {
+    match serve_in_turn(rt, readable, &mut requests, &mut output(rt)) {
         Ended::Answered => 0,
         Ended::Unreadable => {
             let _ = errors.write_all(b"unreadable -\n");

@@ -1,3 +1,4 @@
 pub mod Streams
 pub mod Tasks
 pub mod Files
+pub mod Serving

@@ -27,8 +27,8 @@ use std::alloc::{AllocError, Global};
 use std::sync::Wait;
 use std::thread::Threads;
 
-// Outcomes, or what a play tells to tools, with their big numbers as texts where they are wanted so.
-fn outcomes(alloc: Global, text: Vec<u8>, big: bool) -> Result<Vec<u8>, Memory>
+/// Outcomes, or what a play tells to tools, with their big numbers as texts where they are wanted so.
+pub fn outcomes(alloc: Global, text: Vec<u8>, big: bool) -> Result<Vec<u8>, Memory>
     ensures { IfOk result (λ written. written.items ≡ outcomes big text.items) }
 {
     if big {
@@ -121,7 +121,8 @@ pub fn table_said(alloc: Global, contract: &[u8], depth: usize, face: Face) -> R
     }
 }
 
-fn table_answer(alloc: Global, text: Vec<u8>, face: Face) -> Result<Vec<u8>, Memory>
+/// The lines of a table, or the object of them for tools.
+pub fn table_answer(alloc: Global, text: Vec<u8>, face: Face) -> Result<Vec<u8>, Memory>
     ensures { IfOk result (λ answer. answer.items ≡ table_answer face text.items) }
 {
     match face {
@@ -215,7 +216,8 @@ fn play_refusal_of(alloc: Global, fault: &PlayFault) -> Result<Refusal, Memory>
     })
 }
 
-fn play_members(alloc: Global, fault: &PlayFault) -> Result<Vec<u8>, Memory>
+/// The members of the object that says why a scenario isn't played.
+pub fn play_members(alloc: Global, fault: &PlayFault) -> Result<Vec<u8>, Memory>
     ensures { IfOk result (λ members. members.items ≡ play_members fault.now) }
 {
     match fault {

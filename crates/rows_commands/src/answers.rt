@@ -66,7 +66,7 @@ pub fn printed<R: Files + AllocGlobal + Threads + Wait + Sync>(
     put_words(alloc, &mut words, more)?;
     match command(rt, &Folder { rt, given }, &NoWatch, words.as_slice(), false)? {
         Command::Printed(printed) => Ok(printed),
-        Command::Serve(readable) => streamed(alloc, given, readable),
+        Command::Serve(readable) => streamed(rt, given, readable),
     }
 }
 

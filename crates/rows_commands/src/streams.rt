@@ -2,17 +2,22 @@
 ghost use Rattle.std.specs.Prelude.{◌≤◌};
 
 use definitions::Definitions;
-use marlowe_commands::Printed;
+use marlowe_commands::{Printed, answer_in_turn};
 use marlowe_run::Readable;
 use rows_given::Given;
 use rows_text::{RowFault, without_end};
-use serve::answer;
-use std::alloc::Global;
+use std::sync::Wait;
+use std::thread::Threads;
 
 /// The answers to the requests that are given as the file `-`, a line each.
-pub fn streamed(alloc: Global, given: &Given, readable: Readable) -> Result<Printed, RowFault>
+pub fn streamed<R: AllocGlobal + Threads + Wait + Sync>(
+    rt: &R,
+    given: &Given,
+    readable: Readable,
+) -> Result<Printed, RowFault>
     requires { readable.depth ≤ 4000 }
 {
+    let alloc = rt.alloc();
     let mut definitions = Definitions::new(alloc);
     let mut output = Vec::new(alloc);
     let mut number = 0u64;
@@ -20,7 +25,7 @@ pub fn streamed(alloc: Global, given: &Given, readable: Readable) -> Result<Prin
     if !requests.is_empty() {
         for line in without_end(requests).split(|byte| *byte == b'\n') {
             number = number.saturating_add(1);
-            let text = answer(alloc, readable, &mut definitions, number, line)?;
+            let text = answer_in_turn(rt, readable, &mut definitions, number, line)?;
             output.extend_from_slice(text.as_slice())?;
         }
     }

@@ -54,7 +54,8 @@ pub fn answer_with<P: Player>(
     number: u64,
     line: &[u8],
 ) -> Result<Vec<u8>, Memory>
-    requires { readable.depth < 2 ^ 63 }
+    requires depth { readable.depth < 2 ^ 63 }
+    requires may { P.may player.now }
     ensures answer { IfOk result (λ text. IsAnswerWith P.tells readable definitions.old number line.now text.items definitions.new) }
     ensures err { OnErr result (definitions.new ≡ definitions.old) }
 {
@@ -95,7 +96,8 @@ fn answer_of<P: Player>(
     bytes: usize,
     json: &Json<'_>,
 ) -> Result<Vec<u8>, Memory>
-    requires { AllFit (view json.now) }
+    requires fits { AllFit (view json.now) }
+    requires may { P.may player.now }
     ensures answer { IfOk result (λ text. IsAnswerOf P.tells readable definitions.old number bytes (view json.now) text.items definitions.new) }
     ensures err { OnErr result (definitions.new ≡ definitions.old) }
 {
@@ -131,7 +133,8 @@ fn request_answer<P: Player>(
     body: &Json<'_>,
     id: &[u8],
 ) -> Result<Vec<u8>, Memory>
-    requires { AllFit (view body.now) }
+    requires fits { AllFit (view body.now) }
+    requires may { P.may player.now }
     ensures answer { IfOk result (λ text. TellsAsked P.tells readable definitions.old bytes kind (view body.now) id.now text.items definitions.new) }
     ensures err { OnErr result (definitions.new ≡ definitions.old) }
 {
@@ -216,6 +219,7 @@ fn play_answer<P: Player>(
     body: &Json<'_>,
     id: &[u8],
 ) -> Result<Vec<u8>, Memory>
+    requires { P.may player.now }
     ensures { IfOk result (λ text. AnswersPlay (P.tells readable (view body.now)) id.now text.items) }
 {
     let answer = player.play(alloc, readable, body)?;

@@ -23,11 +23,15 @@ pub enum PlayAnswer {
 /// Who plays the scenarios of requests. Of a player the stream asks nothing but that a call tells what may be told of its request: a
 /// call that waits is waited for.
 pub trait Player {
+    /// What a call rests on, which whoever makes the player knows.
+    ghost may: { Self → Type 0 };
+
     /// What may be told of what stands at `play`: lines, or members.
     ghost tells: { Readable → Data → Result (List ℕ) (List ℕ) → Type 0 };
 
     /// Plays what stands at `play`. Only a growth that was refused gives `Memory`.
     fn play(&self, alloc: Global, readable: Readable, body: &Json<'_>) -> Result<PlayAnswer, Memory>
+        requires { may self.now }
         ensures { IfOk result (λ answer. tells readable (view body.now) (answer_seen answer)) };
 }
 
@@ -36,6 +40,8 @@ pub trait Player {
 pub struct NoPlayer;
 
 impl Player for NoPlayer {
+    ghost may = { λ _. Unit {0} };
+
     ghost tells = { no_play };
 
     fn play(

@@ -30,7 +30,7 @@ pub enum Ended {
     Unreadable = 2,
     /// A write has failed.
     Unwritable = 3,
-    /// Memory was refused for a line.
+    /// There was no memory to begin with.
     Memory = 4,
 }
 
@@ -83,6 +83,7 @@ pub fn serve_with<P: Player, S: Source, K: Sink>(
     output: &mut K,
 ) -> Ended
     requires depth { readable.depth < 2 ^ 63 }
+    requires may { P.may player.now }
     requires reads { S.has_failed input.old ≡ false }
     requires writes { K.has_failed output.old ≡ false }
     ensures whole { result ≡ Ended.Answered → (answers : List ℕ)
@@ -125,6 +126,7 @@ fn turn<P: Player, S: Source, K: Sink>(
     output: &mut K,
 ) -> Result<bool, Ended>
     requires depth { readable.depth < 2 ^ 63 }
+    requires may { P.may player.now }
     requires reads { S.has_failed input.old ≡ false }
     requires writes { K.has_failed output.old ≡ false }
     requires numbers { desk.old.number < 2 ^ 64 - 1 }
@@ -145,7 +147,7 @@ fn turn<P: Player, S: Source, K: Sink>(
     ensures other { result ≡ Err Ended.Answered → ⊥ }
 {
     match desk.lines.step() {
-        Ok(Step::Line(line)) => {
+        Step::Line => {
             desk.number += 1;
             let text = answer_with(
                 alloc,
@@ -153,27 +155,26 @@ fn turn<P: Player, S: Source, K: Sink>(
                 readable,
                 &mut desk.definitions,
                 desk.number,
-                line.as_slice(),
+                desk.lines.line(),
             );
             put_answer(&mut desk.waiting, output, text)?;
             Ok(false)
         }
-        Ok(Step::TooLong) => {
+        Step::TooLong => {
             desk.number += 1;
             let text = answer_too_long(alloc, desk.number);
             put_answer(&mut desk.waiting, output, text)?;
             Ok(false)
         }
-        Ok(Step::More) => {
+        Step::More => {
             write(&mut desk.waiting, output)?;
             read_more::<P, S>(desk, input)?;
             Ok(false)
         }
-        Ok(Step::End) => {
+        Step::End => {
             write(&mut desk.waiting, output)?;
             Ok(true)
         }
-        Err(_) => Err(Ended::Memory),
     }
 }
 
