@@ -1,7 +1,7 @@
 #!/usr/bin/env python3
 """Asks `marlowe serve` random requests by one stream, names that come and go among them, and compares each answer with one worked out apart: outcomes by
 the interpreter beside this file, plays by plays.py, canonical texts by Python's own JSON, bytes by ledger.py. Of each stream some requests are also given to the
-command, and compared with what it prints; so are plays whose setup may be refused.
+command, and compared with what it prints, what explains a refusal included. Of these some have a part that was spoiled, and some are plays.
 
 Needs    (cd crates/marlowe && rt run -- --version)
 Usage    serve.py [--requests N] [--seed S] [--commands N] [--jobs N] [PROGRAM WORDS..]
@@ -13,7 +13,7 @@ Else     `differs` with the request, what was wanted and what came, and status 1
 import collections, hashlib, json, multiprocessing, os, random, subprocess, sys, tempfile
 HERE = os.path.dirname(os.path.abspath(__file__))
 sys.path.insert(0, HERE)
-import compare, ledger, plays, random_scenarios, transactions
+import compare, ledger, plays, random_scenarios, spoiled, transactions
 from interpreter import printed
 MARLOWE = os.environ.get("MARLOWE") or os.path.join(HERE, "..", "crates", "marlowe", "out", "marlowe")
 R = random.Random()
@@ -96,14 +96,44 @@ def encoded(contract):
     """The bytes of a script, and its id."""
     script = ledger.contract_bytes(contract) + transactions.string(b"\0\xff")
     return {"bytes": script.hex(), "id": hashlib.sha256(script).hexdigest()}
+def spoilt(value):
+    """A value whose text was spoiled until it was another JSON value, which Python writes as it reads it."""
+    while True:
+        try:
+            whole = text(value).encode()
+            other = json.loads(spoiled.spoiled(R, whole, [whole])[0], parse_constant=int)
+            json.dumps(other, allow_nan=False)
+            return other
+        except (ValueError, RecursionError): pass
 def others(contract, state, transaction):
     """Requests whose answers only the command has."""
     parts = {"contract": contract, "state": state}
-    sort = R.randrange(4)
-    if sort == 3: return {"play": {"scenario": scenario()}}
+    sort = R.randrange(7)
+    if sort == 3:
+        body = {**parts, "transaction": transaction}
+        key = R.choice(list(body))
+        return {"run": {**body, key: spoilt(body[key])}}
+    if sort == 6: return {"play": {"scenario": scenario()}}
+    if sort > 3:
+        many = [transaction] * R.randrange(4)
+        many.insert(R.randrange(len(many) + 1), spoilt(transaction))
+        return {"trace": {**parts, "transactions": many}} if sort == 4 else {"next": {**parts, "after": many}}
     if sort == 0: return {"next": {**parts, "after": [transaction] * R.randrange(2), **R.choice([{}, {"from": 3}, {"from": 3, "to": 9}])}}
     return {"table": {"contract": contract}} if sort == 1 else {"analyse": {**parts, "no_runs": R.random() < 0.5, "notes": R.random() < 0.5}}
 class Differs(Exception): pass
+OF_TEXTS = ("file", "line", "column", "first")
+def stands_so(told, other):
+    """Whether two numbers are told to stand there that are one: of a fraction a text may have its own spelling."""
+    try: return float(told) == float(other)
+    except ValueError: return False
+def explained(printed, told):
+    """The refusal that a command prints, as a stream has it: without what only a text has. Of a scenario that isn't read nothing is explained."""
+    if printed["of"] == "scenario": return told_first(printed)
+    if "wanted" in printed and stands_so(printed["stands"], told.get("stands", "")): printed = {**printed, "stands": told["stands"]}
+    return {key: it for key, it in printed.items() if key not in OF_TEXTS}
+def told_first(refused):
+    """What is refused, and the name of the fault: what stands before what explains it."""
+    return {key: it for key, it in refused.items() if key in ("of", "name", "number") or key == "line" and refused["of"] == "line"}
 def asked(words, lines):
     """The answers to lines, as one stream gives them."""
     run = subprocess.run(words, input=("\n".join(lines) + "\n").encode(), capture_output=True)
@@ -133,13 +163,16 @@ def by_command(line, answer):
         run = subprocess.run(words_of(name, body, path), capture_output=True, encoding="utf-8")
     printed = [json.loads(it) for it in run.stdout.split("\n")[:-1]]
     want = {}
-    if printed and "refused" in printed[-1]:
-        why = printed.pop()["refused"]
-        want["refused"] = {key: it for key, it in why.items() if why["of"] == "setup" or key in ("of", "name", "number")}
+    if printed and "refused" in printed[-1]: want["refused"] = explained(printed.pop()["refused"], told.get("refused", {}))
     if name == "play" and printed: want["ok"] = printed
     elif name == "trace" and (printed or want.get("refused", {}).get("number")): want["ok"] = printed
     elif printed: want["ok"] = printed[0]
     if {**want, "id": told["id"]} != told: differs(line, want, answer)
+def ended_so(got, begins, refused):
+    """Whether an answer begins so, and ends there or with a refusal that begins so."""
+    if refused is None: return got == begins + "}"
+    front = begins + ',"refused":' + json.dumps(refused, separators=(",", ":"))[:-1]
+    return got.startswith(front) and got[len(front)] in ",}" and got.endswith("}}")
 def stream(given):
     """How many answers of one stream are of each sort, or how one differs."""
     words, seed, count, commands = given
@@ -151,8 +184,10 @@ def stream(given):
         answers = asked(words, [line for line, _ in pairs + some])
         if len(answers) != len(pairs) + len(some): raise Differs(f"{len(pairs) + len(some)} lines, {len(answers)} answers")
         for (line, want), got in zip(pairs, answers):
-            if json.loads(got) != want: differs(line, want, got)
-            if "ok" in want and got != '{"id":' + text(want["id"]) + ',"ok":' + text(want["ok"]) + (',"refused":' + json.dumps(want["refused"], separators=(",", ":")) if "refused" in want else "") + "}": differs(line, want, got)
+            answer = json.loads(got)
+            if "refused" in answer: answer["refused"] = told_first(answer["refused"])
+            if answer != want: differs(line, want, got)
+            if "ok" in want and not ended_so(got, '{"id":' + text(want["id"]) + ',"ok":' + text(want["ok"]), want.get("refused")): differs(line, want, got)
             told[want["refused"]["of"] + " " + want["refused"]["name"] if "refused" in want else "ok"] += 1
         whole = [(line, got) for (line, _), got in zip(pairs, answers) if line[:1] == "{" and ('"run":{' in line or '"trace":{' in line) and '"contract":{"name":' not in line]
         for line, got in R.sample(whole, min(commands, len(whole))) + [(line, got) for (line, _), got in zip(some, answers[len(pairs):])]:

@@ -1,8 +1,8 @@
 -- Transactions that are read behind none.
 use Rattle.std.proofs.Common.{◌≡◌, ℕ, List, [], ◌++◌, Result, Ok, Err, refl, sym, ap, ◌∙◌, append-nil}
-use Rattle.collections.specs.Answers.{◌>>=◌}
+use Rattle.contract.specs.Collections.Answers.{◌>>=◌}
 use Rattle.contract.specs.declared.transaction.Transaction.{Transaction}
-use Rattle.json_read_names.specs.Parts.{Reading}
+use Rattle.marlowe_run.specs.JsonReadNames.Parts.{Reading}
 use Rattle.json_read_transactions.specs.ReadsTransactions.{taken}
 use Rattle.json_read_transactions.specs.TakingSupport.{going_on}
 use Rattle.json_read_transactions.specs.declared.fault.ReadFault.{ReadFault}

@@ -1,30 +1,31 @@
 -- What stands in a request.
-use Rattle.std.specs.Prelude.{ℕ, Bool, List, [], Option, Some, None, Result, Ok, Err, codes, if◌then◌else◌}
+use Rattle.std.specs.Prelude.{ℕ, ℤ, Bool, List, [], Option, Some, None, Result, Ok, Err, codes, if◌then◌else◌}
 use Rattle.std.specs.Option.{option_and_then}
-use Rattle.collections.specs.Answers.{◌>>=◌}
+use Rattle.contract.specs.Collections.Answers.{◌>>=◌}
 use Rattle.contract.specs.declared.tree.Contract.{Contract}
 use Rattle.contract.specs.declared.input.Input.{Input}
 use Rattle.contract.specs.declared.transaction.Transaction.{Transaction}
-use Rattle.names.specs.declared.party.Party.{Party}
-use Rattle.names.specs.declared.token.Token.{Token}
-use Rattle.states.specs.States.{StateMaps}
+use Rattle.contract.specs.Names.declared.party.Party.{Party}
+use Rattle.contract.specs.Names.declared.token.Token.{Token}
+use Rattle.contract.specs.States.States.{StateMaps}
 use Rattle.serde_json.specs.Data.{Data}
 use Rattle.serde_json.specs.Find.{get, as_str}
-use Rattle.json_read_names.specs.Forms.{contract_form}
-use Rattle.json_read_names.specs.Parts.{member_at, reading_at}
-use Rattle.json_read_names.specs.ReadsNames.{party, token}
-use Rattle.json_read_names.specs.declared.fault.JsonFault.{JsonFault}
-use Rattle.json_read_names.specs.declared.forms.ContractForm.{ContractForm}
-use Rattle.json_read_names.specs.declared.forms.ContractForm.TheVariants as forms
-use Rattle.json_read_contracts.specs.ReadsContract.{contract}
-use Rattle.json_read_inputs.specs.ReadsInput.{input, transaction}
+use Rattle.marlowe_run.specs.JsonReadNames.Forms.{contract_form}
+use Rattle.marlowe_run.specs.JsonReadNames.Parts.{member_at, reading_at, time}
+use Rattle.marlowe_run.specs.JsonReadNames.ReadsNames.{party, token}
+use Rattle.marlowe_run.specs.JsonReadNames.declared.fault.JsonFault.{JsonFault}
+use Rattle.marlowe_run.specs.JsonReadNames.declared.forms.ContractForm.{ContractForm}
+use Rattle.marlowe_run.specs.JsonReadNames.declared.forms.ContractForm.TheVariants as forms
+use Rattle.marlowe_run.specs.JsonReadContracts.ReadsContract.{contract}
+use Rattle.marlowe_run.specs.JsonReadInputs.ReadsInput.{input, transaction}
 use Rattle.json_read_transactions.specs.ReadsTransactions.{taken, value_readings}
-use Rattle.marlowe_refusals.specs.Faults.{read_as, contract_fault, state_fault, transaction_fault}
-use Rattle.marlowe_refusals.specs.TraceFaults.{told_as, texts_fault}
+use Rattle.marlowe_run.specs.MarloweRefusals.Faults.{read_as, contract_fault, state_fault, transaction_fault}
+use Rattle.marlowe_run.specs.MarloweRefusals.TraceFaults.{told_as, texts_fault}
 use Rattle.marlowe_run.specs.Start.{at_first, state_reading}
 use Rattle.definitions.specs.Named.{named}
 use Rattle.definitions.specs.declared.definition.Definition.{Definition}
 use Rattle.request_parts.specs.Refusals.{run_refused, trace_refused, part_refused}
+use Rattle.request_parts.specs.declared.refusal.Part.{Part}
 use Rattle.request_parts.specs.declared.refusal.Part.TheVariants as parts
 use Rattle.request_parts.specs.declared.refusal.Refusal.{Refusal}
 use Rattle.request_parts.specs.declared.refusal.Refusal.TheVariants as refusals
@@ -80,6 +81,16 @@ transactions_or (Some d) = told_as (λ f. trace_refused (texts_fault f)) (taken 
 -- at a key: a list, one, or none where the key isn't there
 abbrev pub transactions_at : List ℕ → Data → Result (List Transaction) Refusal
 transactions_at key body = transactions_or (get key body)
+
+-- ---- times
+
+abbrev time_or : Part → Option Data → Result (Option ℤ) Refusal
+time_or p None = Ok None
+time_or p (Some d) = read_as (part_refused p) (time d) >>= λ t. Ok (Some t)
+
+-- at a key, if it is there
+abbrev pub time_at : Part → List ℕ → Data → Result (Option ℤ) Refusal
+time_at p key body = time_or p (get key body)
 
 -- ---- other values
 

@@ -2,9 +2,9 @@
 use Rattle.std.specs.Prelude.{◌≡◌, ℕ, List, true, Some, Ok}
 use Rattle.contract.specs.declared.tree.Contract.{Contract}
 use Rattle.contract.specs.Tree.{contract_tree}
-use Rattle.contract_json.specs.PartAt.{part_at}
-use Rattle.json_read_contracts.specs.ReadsContract.{contract}
-use Rattle.json_write_contracts.specs.WrittenContract.{contract_fits}
+use Rattle.marlowe_run.specs.ContractJson.PartAt.{part_at}
+use Rattle.marlowe_run.specs.JsonReadContracts.ReadsContract.{contract}
+use Rattle.marlowe_run.specs.JsonWriteContracts.WrittenContract.{contract_fits}
 use Rattle.serde_json.specs.Data.{Data}
 
 -- each contract that is read of a part of the value can be written

@@ -1,15 +1,15 @@
 -- Why a line isn't answered by what it asks, and how that is told.
-use Rattle.std.specs.Prelude.{ℕ, List, [], ◌++◌, codes, decimal}
-use Rattle.json_read_names.specs.declared.fault.JsonFault.{JsonFault}
-use Rattle.json_read_names.specs.declared.fault.JsonFault.TheVariants as json
-use Rattle.marlowe_refusals.specs.declared.fault.Fault.TheVariants as fault
-use Rattle.marlowe_refusals.specs.declared.fault.RunFault.{RunFault}
-use Rattle.marlowe_refusals.specs.declared.fault.RunFault.TheVariants as run
-use Rattle.marlowe_refusals.specs.declared.table_fault.TableFault.{TableFault}
-use Rattle.marlowe_refusals.specs.declared.table_fault.TableFault.TheVariants as table
-use Rattle.marlowe_refusals.specs.declared.trace_fault.TraceFault.{TraceFault}
-use Rattle.marlowe_refusals.specs.declared.trace_fault.TraceFault.TheVariants as trace
-use Rattle.marlowe_refusals.specs.Refusals.{json_fault_name}
+use Rattle.std.specs.Prelude.{ℕ, List, ◌++◌, codes, decimal}
+use Rattle.marlowe_run.specs.JsonReadNames.declared.fault.JsonFault.{JsonFault}
+use Rattle.marlowe_run.specs.JsonReadNames.declared.fault.JsonFault.TheVariants as json
+use Rattle.marlowe_run.specs.MarloweRefusals.declared.fault.Fault.TheVariants as fault
+use Rattle.marlowe_run.specs.MarloweRefusals.declared.fault.RunFault.{RunFault}
+use Rattle.marlowe_run.specs.MarloweRefusals.declared.fault.RunFault.TheVariants as run
+use Rattle.marlowe_run.specs.MarloweRefusals.declared.table_fault.TableFault.{TableFault}
+use Rattle.marlowe_run.specs.MarloweRefusals.declared.table_fault.TableFault.TheVariants as table
+use Rattle.marlowe_run.specs.MarloweRefusals.declared.trace_fault.TraceFault.{TraceFault}
+use Rattle.marlowe_run.specs.MarloweRefusals.declared.trace_fault.TraceFault.TheVariants as trace
+use Rattle.marlowe_run.specs.MarloweRefusals.Refusals.{json_fault_name}
 use Rattle.refusal_objects.specs.Objects.{fault_members, named, refused_object}
 use Rattle.request_parts.specs.declared.refusal.LineFault.{LineFault}
 use Rattle.request_parts.specs.declared.refusal.LineFault.TheVariants as lines
@@ -69,5 +69,6 @@ refusal_members refusals.Full = named (codes "define") (codes "Full")
 refusal_members refusals.NoPlay = named (codes "play") (codes "Unsupported")
 refusal_members refusals.Memory = named (codes "memory") (codes "Memory")
 
-abbrev pub refusal_object : Refusal → List ℕ
-refusal_object refusal = refused_object (refusal_members refusal) []
+-- .. and what else is told of it, which may be nothing
+abbrev pub refusal_object : Refusal → List ℕ → List ℕ
+refusal_object refusal reason = refused_object (refusal_members refusal) reason

@@ -1,26 +1,12 @@
 //! The line of an answer.
-ghost use Rattle.std.specs.Prelude.{◌≡◌, ◌++◌, ℕ, List, IfOk, OnOk, codes, map, Result};
-ghost use Rattle.collections.specs.Answers.{AsideBy};
-ghost use Rattle.request_parts.specs.Answered.{answered, begun, comma_for_feed, cut_answer, listed, ok_answer, refused_answer, traced_answer, without_feed};
-ghost use Rattle.request_parts.specs.declared.refusal.Refusal.{Refusal};
+ghost use Rattle.std.specs.Prelude.{◌≡◌, ◌++◌, IfOk, OnOk, codes, map};
+ghost use Rattle.request_parts.specs.Answered.{begun, comma_for_feed, cut_answer, listed, ok_answer, reasoned_answer, refused_answer, traced_answer, without_feed};
 
 use crate::refusal::Refusal;
 use crate::refused::refusal_object;
-use collections::Memory;
-use marlowe_refusals::TraceFault;
-use std::alloc::{AllocError, Global};
-
-/// The answer under an id: what is told, or why nothing is.
-pub fn answered(alloc: Global, id: &[u8], told: Result<Vec<u8>, Refusal>) -> Result<Vec<u8>, Memory>
-    ensures { (answer : Result (List ℕ) Refusal) → AsideBy Refusal.Memory (λ text. text.items) told answer
-        → IfOk result (λ line. line.items ≡ answered id.now answer) }
-{
-    match told {
-        Ok(text) => ok_answer(alloc, id, text.as_slice()),
-        Err(Refusal::Memory) => Err(AllocError),
-        Err(refusal) => refused_answer(alloc, id, refusal),
-    }
-}
+use contract::Memory;
+use marlowe_run::TraceFault;
+use std::alloc::Global;
 
 /// What is told.
 pub fn ok_answer(alloc: Global, id: &[u8], text: &[u8]) -> Result<Vec<u8>, Memory>
@@ -36,31 +22,50 @@ pub fn ok_answer(alloc: Global, id: &[u8], text: &[u8]) -> Result<Vec<u8>, Memor
 pub fn refused_answer(alloc: Global, id: &[u8], refusal: Refusal) -> Result<Vec<u8>, Memory>
     ensures { IfOk result (λ line. line.items ≡ refused_answer id.now refusal) }
 {
-    let object = refusal_object(alloc, refusal)?;
+    reasoned_answer(alloc, id, refusal, b"")
+}
+
+/// .. and what else is told of it.
+pub fn reasoned_answer(
+    alloc: Global,
+    id: &[u8],
+    refusal: Refusal,
+    reason: &[u8],
+) -> Result<Vec<u8>, Memory>
+    ensures { IfOk result (λ line. line.items ≡ reasoned_answer id.now refusal reason.now) }
+{
+    let object = refusal_object(alloc, refusal, reason)?;
     let line = begun(alloc, id)?;
     refused_behind(line, object.as_slice())
 }
 
-/// Outcomes, and why the next transaction is refused, if one is.
+/// Outcomes, and why the next transaction is refused, if one is, with what else is told of it.
 pub fn traced_answer(
     alloc: Global,
     id: &[u8],
     lines: &[u8],
     refused: Option<TraceFault>,
+    reason: &[u8],
 ) -> Result<Vec<u8>, Memory>
-    ensures { IfOk result (λ line. line.items ≡ traced_answer id.now lines.now refused) }
+    ensures { IfOk result (λ line. line.items ≡ traced_answer id.now lines.now refused reason.now) }
 {
     let text = listed(alloc, lines)?;
     match refused {
         None => ok_answer(alloc, id, text.as_slice()),
-        Some(fault) => cut_answer(alloc, id, text.as_slice(), Refusal::from(fault)),
+        Some(fault) => cut_answer(alloc, id, text.as_slice(), Refusal::from(fault), reason),
     }
 }
 
-fn cut_answer(alloc: Global, id: &[u8], text: &[u8], refusal: Refusal) -> Result<Vec<u8>, Memory>
-    ensures { IfOk result (λ line. line.items ≡ cut_answer id.now text.now refusal) }
+fn cut_answer(
+    alloc: Global,
+    id: &[u8],
+    text: &[u8],
+    refusal: Refusal,
+    reason: &[u8],
+) -> Result<Vec<u8>, Memory>
+    ensures { IfOk result (λ line. line.items ≡ cut_answer id.now text.now refusal reason.now) }
 {
-    let object = refusal_object(alloc, refusal)?;
+    let object = refusal_object(alloc, refusal, reason)?;
     let rest = refused_behind(Vec::new(alloc), object.as_slice())?;
     told_before(alloc, id, text, rest.as_slice())
 }

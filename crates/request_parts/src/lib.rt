@@ -8,9 +8,10 @@ mod refused;
 mod text;
 mod transactions;
 
-pub use answer_lines::{answered, ok_answer, refused_answer, traced_answer, without_feed};
-pub use parts::{Given, contract_at, input_at, party_at, state_at, token_at, transaction_at};
+pub use answer_lines::{ok_answer, reasoned_answer, refused_answer, traced_answer, without_feed};
+pub use parts::{
+    Given, contract_at, input_at, name_of, party_at, state_at, time_at, token_at, transaction_at,
+};
 pub use refusal::{LineFault, Part, Refusal};
-pub use refused::refusal_object;
 pub use text::text_of;
 pub use transactions::transactions_at;

@@ -1,23 +1,22 @@
 //! What stands in a request.
 ghost use Rattle.std.specs.Prelude.{◌≡◌, true, IfOk, option_map};
-ghost use Rattle.collections.specs.Answers.{Aside, AsideBy};
+ghost use Rattle.contract.specs.Collections.Answers.{Aside, AsideBy};
 ghost use Rattle.contract.specs.Tree.{contract_tree};
 ghost use Rattle.json_tree.specs.View.{view};
-ghost use Rattle.json_write_contracts.specs.WrittenContract.{contract_fits};
-ghost use Rattle.request_parts.specs.Parts.{contract_at, contract_given, input_at, name_of, party_at, state_at, token_at, transaction_at};
+ghost use Rattle.marlowe_run.specs.JsonWriteContracts.WrittenContract.{contract_fits};
+ghost use Rattle.request_parts.specs.Parts.{contract_at, contract_given, input_at, name_of, party_at, state_at, time_at, token_at, transaction_at};
 ghost use Rattle.request_parts.specs.Given.{given_contract};
 ghost use Rattle.request_parts.specs.PartsSupport.{AllFit};
 
 use crate::refusal::{Part, Refusal};
 use contract::{Contract, Input, Party, State, Token, Transaction};
-use contract_json::{
-    contract_from_json, input_from_json, party_from_json, state_from_json,
-    state_with_texts_from_json, token_from_json, transaction_from_json,
-};
 use definitions::Definitions;
-use json_read_names::{ContractForm, JsonFault, contract_form};
 use json_tree::{Json, JsonValue};
-use marlowe_refusals::RunFault;
+use marlowe_run::{
+    ContractForm, JsonFault, RunFault, contract_form, contract_from_json, input_from_json,
+    party_from_json, read_time, state_from_json, state_with_texts_from_json, token_from_json,
+    transaction_from_json,
+};
 use std::alloc::Global;
 
 /// A contract that a request speaks of.
@@ -89,8 +88,8 @@ fn contract_given<'d>(
     }
 }
 
-// The name in a value that has no form of a contract.
-fn name_of<'j>(json: &'j Json<'_>) -> Option<&'j str>
+/// The name in a value that has no form of a contract.
+pub fn name_of<'j>(json: &'j Json<'_>) -> Option<&'j str>
     ensures { option_map (λ name. name.now) result ≡ name_of (view json.now) }
 {
     match contract_form(json) {
@@ -130,6 +129,19 @@ pub fn transaction_at(alloc: Global, body: &Json<'_>) -> Result<Transaction, Ref
             Err(fault) => Err(Refusal::from(RunFault::of_transaction(fault))),
         },
         None => Err(Refusal::from(RunFault::of_transaction(JsonFault::NoForm))),
+    }
+}
+
+/// A time at a key, if it is there. It is in POSIX milliseconds.
+pub fn time_at(part: Part, key: &str, body: &Json<'_>) -> Result<Option<i64>, Refusal>
+    ensures { Aside Refusal.Memory result (time_at part key.now (view body.now)) }
+{
+    match body.member(key) {
+        Some(json) => match read_time(json) {
+            Ok(time) => Ok(Some(time)),
+            Err(fault) => Err(Refusal::of_part(part, fault)),
+        },
+        None => Ok(None),
     }
 }
 

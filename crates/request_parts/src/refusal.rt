@@ -3,8 +3,7 @@ ghost use Rattle.std.specs.Prelude.{◌≡◌};
 ghost use Rattle.request_parts.specs.Refusals.{run_refused, trace_refused, table_refused, part_refused};
 ghost use Rattle.request_parts.specs.declared.refusal.Refusal.TheVariants as refusals;
 
-use json_read_names::JsonFault;
-use marlowe_refusals::{Fault, RunFault, TableFault, TraceFault};
+use marlowe_run::{Fault, JsonFault, RunFault, TableFault, TraceFault};
 use std::alloc::{AllocError, AllocFailed};
 
 /// Why a line is no request.

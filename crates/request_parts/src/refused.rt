@@ -3,17 +3,21 @@ ghost use Rattle.std.specs.Prelude.{◌≡◌, IfOk};
 ghost use Rattle.request_parts.specs.Refusals.{line_members, line_name, part_word, refusal_members, refusal_object};
 
 use crate::refusal::{LineFault, Part, Refusal};
-use collections::Memory;
-use marlowe_refusals::json_fault_name;
+use contract::Memory;
+use marlowe_run::json_fault_name;
 use refusal_objects::{members, named_members, refused_object};
 use std::alloc::Global;
 
-/// The object that says what is refused, and why.
-pub fn refusal_object(alloc: Global, refusal: Refusal) -> Result<Vec<u8>, Memory>
-    ensures { IfOk result (λ text. text.items ≡ refusal_object refusal) }
+/// The object that says what is refused, and why, with what else is told of it.
+pub(crate) fn refusal_object(
+    alloc: Global,
+    refusal: Refusal,
+    reason: &[u8],
+) -> Result<Vec<u8>, Memory>
+    ensures { IfOk result (λ text. text.items ≡ refusal_object refusal reason.now) }
 {
     let members = refusal_members(alloc, refusal)?;
-    refused_object(alloc, members.as_slice(), b"")
+    refused_object(alloc, members.as_slice(), reason)
 }
 
 fn refusal_members(alloc: Global, refusal: Refusal) -> Result<Vec<u8>, Memory>

@@ -1,11 +1,11 @@
 //! The compact text of a value.
 ghost use Rattle.std.specs.Prelude.{◌≡◌};
-ghost use Rattle.collections.specs.Answers.{AsideBy};
-ghost use Rattle.json_write_contracts.specs.Written.{in_range};
+ghost use Rattle.contract.specs.Collections.Answers.{AsideBy};
+ghost use Rattle.marlowe_run.specs.JsonWriteContracts.Written.{in_range};
 ghost use Rattle.serde_json.specs.Written.{compact_text};
 
-use contract_json::{PutJson, WriteFault};
 use json::Writer;
+use marlowe_run::{PutJson, WriteFault};
 use std::alloc::Global;
 
 /// The compact text of what stands for a thing.

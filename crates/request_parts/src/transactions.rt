@@ -1,9 +1,9 @@
 //! Transactions that stand in a request.
 ghost use Rattle.std.specs.Prelude.{◌≡◌, [], ◌∷◌};
-ghost use Rattle.collections.specs.Answers.{Aside};
+ghost use Rattle.contract.specs.Collections.Answers.{Aside};
 ghost use Rattle.contract.specs.declared.transaction.Transaction.{Transaction};
-ghost use Rattle.json_read_names.specs.Parts.{Reading};
-ghost use Rattle.json_read_names.specs.declared.fault.JsonFault.TheVariants as json;
+ghost use Rattle.marlowe_run.specs.JsonReadNames.Parts.{Reading};
+ghost use Rattle.marlowe_run.specs.JsonReadNames.declared.fault.JsonFault.TheVariants as json;
 ghost use Rattle.json_read_transactions.specs.TakingSupport.{Takes};
 ghost use Rattle.json_tree.specs.View.{view, items_view};
 ghost use Rattle.json_read_transactions.specs.ReadsTransactions.{item_readings, taken, value_readings};
@@ -12,11 +12,9 @@ ghost use Rattle.request_parts.specs.Parts.{transactions_at};
 
 use crate::refusal::Refusal;
 use contract::{Items, Transaction};
-use contract_json::transaction_from_json;
-use json_read_names::JsonFault;
 use json_read_transactions::ReadFault;
 use json_tree::{Json, JsonValue};
-use marlowe_refusals::TraceFault;
+use marlowe_run::{JsonFault, TraceFault, transaction_from_json};
 use std::alloc::Global;
 
 // The greatest number of transactions.

@@ -3,10 +3,11 @@
 //! reader that fails, and to a writer that fails. A line behind each stream tells how it ended.
 #![tactic(auto)]
 
-use definitions::Definitions;
-use marlowe_io::{ReaderSource, ShortSink, ShortSource, Sink, Source, emit, output};
-use marlowe_run::Readable;
-use serve::{Ended, answer, serve};
+use marlowe_io::Source;
+use serve::{
+    Definitions, Ended, Readable, ReaderSource, ShortSink, ShortSource, Sink, answer, emit, output,
+    serve,
+};
 use std::alloc::{AllocError, Global};
 use std::process::ExitCode;
 

@@ -1,30 +1,36 @@
 -- From parts of a line to its answer.
-use Rattle.std.proofs.Common.{◌≡◌, ℕ, List, Bool, true, false, Some, None, Result, Ok, Err, codes, refl, sym, subst}
+use Rattle.std.proofs.Common.{◌≡◌, ℕ, List, [], Bool, true, false, Some, None, Result, Ok, Err, codes, refl, sym, subst}
 use Rattle.std.specs.declared.option.Option.{Option}
 use Rattle.contract.specs.declared.tree.Contract.{Contract}
 use Rattle.contract.specs.Tree.{contract_tree}
-use Rattle.contract_json.specs.PartAt.{part_at}
+use Rattle.marlowe_trace.specs.ContractJson.PartAt.{part_at}
 use Rattle.serde_json.specs.Data.{Data}
 use Rattle.json_tree.specs.View.{read_within}
 use Rattle.json_tree.specs.declared.read.Refusal.{Refusal as Unread}
 use Rattle.json_tree.specs.declared.read.Refusal.TheVariants as unread
-use Rattle.json_read_contracts.specs.ReadsContract.{contract}
-use Rattle.json_write_contracts.specs.WrittenContract.{contract_fits}
+use Rattle.marlowe_trace.specs.JsonReadContracts.ReadsContract.{contract}
+use Rattle.marlowe_trace.specs.JsonWriteContracts.WrittenContract.{contract_fits}
 use Rattle.marlowe_run.specs.declared.readable.Readable.{Readable}
-use Rattle.definitions.specs.declared.definition.Definition.{Definition}
-use Rattle.definitions.specs.Named.{has_room, put_named}
-use Rattle.requests.specs.Ids.{SpellsId, id_of}
-use Rattle.requests.specs.Requests.{Asked, IsMember, is_object, request_of}
-use Rattle.requests.specs.declared.kind.Kind.{Kind}
-use Rattle.request_parts.proofs.FitLaws.{fit_member}
-use Rattle.request_parts.specs.Answered.{ok_answer, refused_answer}
-use Rattle.request_parts.specs.PartsSupport.{AllFit}
-use Rattle.request_parts.specs.declared.refusal.LineFault.TheVariants as lines
-use Rattle.request_parts.specs.declared.refusal.Refusal.{Refusal}
-use Rattle.request_parts.specs.declared.refusal.Refusal.TheVariants as refusals
-use Rattle.serve.specs.Answers.{IsAnswerOf, IsLineAnswer, TellsAsked, TellsRequest, TellsValue, answer_by}
+use Rattle.request_reasons.specs.Definitions.declared.definition.Definition.{Definition}
+use Rattle.request_reasons.specs.Definitions.Named.{has_room, put_named}
+use Rattle.request_reasons.specs.Requests.Ids.{SpellsId, id_of}
+use Rattle.request_reasons.specs.Requests.Requests.{Asked, IsMember, is_object, request_of}
+use Rattle.request_reasons.specs.Requests.declared.kind.Kind.{Kind}
+use Rattle.request_reasons.proofs.FromRequestParts.FitLaws.{fit_member}
+use Rattle.request_reasons.specs.RequestParts.Answered.{ok_answer, reasoned_answer, refused_answer}
+use Rattle.request_reasons.specs.RequestParts.PartsSupport.{AllFit}
+use Rattle.request_reasons.specs.RequestParts.declared.refusal.LineFault.TheVariants as lines
+use Rattle.request_reasons.specs.RequestParts.declared.refusal.Refusal.{Refusal}
+use Rattle.request_reasons.specs.RequestParts.declared.refusal.Refusal.TheVariants as refusals
+use Rattle.serve.specs.Answers.{AnswersAsked, IsAnswerOf, IsLineAnswer, TellsRequest, TellsValue, answer_by}
 use Rattle.serve.specs.Playing.{Plays}
-use Rattle.serve.specs.Defining.{Changes, ChangesIfRoom, Puts, named_so}
+use Rattle.serve.specs.Defining.{Changes, ChangesIfRoom, Forgets, Puts, TakesAway, named_so}
+use Rattle.serve.specs.Reasoned.{MayTell, WithReason}
+use Rattle.serve.specs.ReasonedSupport.{RefusedSo}
+use Rattle.serve.proofs.ReasonLemmas.{with_none, with_same}
+use Rattle.marlowe_trace.specs.JsonReadNames.declared.fault.JsonFault.TheVariants as json
+use Rattle.request_reasons.specs.RequestParts.declared.refusal.Part.TheVariants as parts
+use Rattle.request_reasons.specs.Requests.declared.kind.Kind.TheVariants as kinds
 
 pub fit_request : (whole body : Data) → AllFit whole → IsMember whole body → AllFit body
 fit_request whole body h (key, is) = fit_member whole body key h (sym is)
@@ -65,7 +71,7 @@ pub no_request : (plays : Plays) (r : Readable) (defs after : List Definition) (
 no_request plays r defs after number bytes d id text spells is asks same says = asked_known plays r defs after number bytes d None id text spells is asks (says, same)
 
 pub a_request : (plays : Plays) (r : Readable) (defs after : List Definition) (number bytes : ℕ) (d body : Data) (kind : Kind) (id text : List ℕ) → SpellsId (id_of (Some d)) id → is_object d ≡ true → Some (kind, body) ≡ request_of d
-    → TellsAsked plays r defs bytes kind body id text after → IsAnswerOf plays r defs number bytes d text after
+    → AnswersAsked plays r defs bytes kind body id text after → IsAnswerOf plays r defs number bytes d text after
 a_request plays r defs after number bytes d body kind id text spells is asks h = asked_known plays r defs after number bytes d (Some (kind, body)) id text spells is asks h
 
 pub ruleset line_steps = (fit_line, answers_value, no_line, answers_none)
@@ -74,26 +80,45 @@ pub ruleset value_steps = (fit_request, no_object, no_request, a_request)
 
 -- ---- a contract gets a name
 
-abbrev room_known : (b room : Bool) → room ≡ b → (new defs : List Definition) (id text : List ℕ) (after : List Definition) → ChangesIfRoom b new defs id text after → ChangesIfRoom room new defs id text after
-room_known b room is new defs id text after h = subst (λ (r : Bool). ChangesIfRoom r new defs id text after) (sym is) h
+module _ (r : Readable) (body : Data) (bytes : ℕ) (defs after : List Definition) (id text : List ℕ) (told : Result (List ℕ × Contract) Refusal) where
+  abbrev Defines : Type 0
+  Defines = WithReason (MayTell r defs kinds.Define body) (Changes bytes defs id told text after)
 
-told_known : (bytes : ℕ) (defs after : List Definition) (id text : List ℕ) (told : Result (List ℕ × Contract) Refusal) (d : Definition) → told ≡ Ok (named_so d) → d.bytes ≡ bytes
-    → Puts d defs id text after → Changes bytes defs id told text after
-told_known bytes defs after id text told d is counts h = subst (λ t. Changes bytes defs id t text after) (sym is) (d, (refl, counts), h)
+  told_known : (d : Definition) → told ≡ Ok (named_so d) → d.bytes ≡ bytes → Puts d defs id text after → Defines
+  told_known d is counts h =
+      with_none r defs kinds.Define body (Changes bytes defs id told text after) (subst (λ t. Changes bytes defs id t text after []) (sym is) (d, (refl, counts), h))
 
--- there is room
-pub defines : (bytes : ℕ) (defs after : List Definition) (id text : List ℕ) (told : Result (List ℕ × Contract) Refusal) (d : Definition) → told ≡ Ok (named_so d) → d.bytes ≡ bytes
-    → has_room (put_named d defs) ≡ true → text ≡ ok_answer id (codes "true") → after ≡ put_named d defs → Changes bytes defs id told text after
-defines bytes defs after id text told d is counts room says new = told_known bytes defs after id text told d is counts (room_known true (has_room (put_named d defs)) room (put_named d defs) defs id text after (says, new))
+  -- there is room
+  pub defines : (d : Definition) → told ≡ Ok (named_so d) → d.bytes ≡ bytes → has_room (put_named d defs) ≡ true → text ≡ ok_answer id (codes "true") → after ≡ put_named d defs → Defines
+  defines d is counts room says new = told_known d is counts (subst (λ (b : Bool). ChangesIfRoom b (put_named d defs) defs id text after) (sym room) (says, new))
 
--- .. or none
-pub defines_none : (bytes : ℕ) (defs after : List Definition) (id text : List ℕ) (told : Result (List ℕ × Contract) Refusal) (d : Definition) → told ≡ Ok (named_so d) → d.bytes ≡ bytes
-    → has_room (put_named d defs) ≡ false → text ≡ refused_answer id refusals.Full → after ≡ defs → Changes bytes defs id told text after
-defines_none bytes defs after id text told d is counts room says same = told_known bytes defs after id text told d is counts (room_known false (has_room (put_named d defs)) room (put_named d defs) defs id text after (says, same))
+  -- .. or none
+  pub defines_none : (d : Definition) → told ≡ Ok (named_so d) → d.bytes ≡ bytes → has_room (put_named d defs) ≡ false → text ≡ refused_answer id refusals.Full → after ≡ defs → Defines
+  defines_none d is counts room says same = told_known d is counts (subst (λ (b : Bool). ChangesIfRoom b (put_named d defs) defs id text after) (sym room) (says, same))
 
--- .. or no contract with a name stands there
-pub defines_nothing : (bytes : ℕ) (defs after : List Definition) (id text : List ℕ) (told : Result (List ℕ × Contract) Refusal) (refusal : Refusal) → told ≡ Err refusal
-    → text ≡ refused_answer id refusal → after ≡ defs → Changes bytes defs id told text after
-defines_nothing bytes defs after id text told refusal is says same = subst (λ t. Changes bytes defs id t text after) (sym is) (says, same)
+  -- .. or no contract with a name stands there
+  pub defines_nothing : (refusal : Refusal) → told ≡ Err refusal → RefusedSo r defs kinds.Define body id refusal text → after ≡ defs → Defines
+  unfolding RefusedSo
+  defines_nothing refusal is h same =
+      with_same (MayTell r defs kinds.Define body) (λ reason. text ≡ reasoned_answer id refusal reason) (Changes bytes defs id told text after)
+      (λ reason says. subst (λ t. Changes bytes defs id t text after reason) (sym is) (says, same)) h
 
 pub ruleset define_steps = (defines, defines_none, defines_nothing)
+
+-- ---- a name is taken away
+
+module _ (r : Readable) (body : Data) (defs after : List Definition) (id text : List ℕ) (name : Option (List ℕ)) where
+  abbrev Forgotten : Type 0
+  Forgotten = WithReason (MayTell r defs kinds.Forget body) (Forgets defs id name text after)
+
+  pub forgets : (word : List ℕ) → Some word ≡ name → TakesAway defs id word text after → Forgotten
+  forgets word is takes = with_none r defs kinds.Forget body (Forgets defs id name text after) (subst (λ n. Forgets defs id n text after []) is takes)
+
+  -- .. or it is none
+  pub forgets_none : None ≡ name → RefusedSo r defs kinds.Forget body id (refusals.Part parts.Forget json.NoForm) text → after ≡ defs → Forgotten
+  unfolding RefusedSo
+  forgets_none is h same =
+      with_same (MayTell r defs kinds.Forget body) (λ reason. text ≡ reasoned_answer id (refusals.Part parts.Forget json.NoForm) reason) (Forgets defs id name text after)
+      (λ reason says. subst (λ n. Forgets defs id n text after reason) is (says, same)) h
+
+pub ruleset forget_steps = (forgets, forgets_none)

@@ -3,20 +3,27 @@ use Rattle.std.proofs.Common.{◌≡◌, ◌≢◌, ℕ, List, Bool, Result, Ok,
 use Rattle.std.specs.declared.vec.Vec.{Vec}
 use Rattle.std.specs.declared.alloc.Global.{Global}
 use Rattle.contract.specs.Tree.{ContractTree}
-use Rattle.states.specs.States.{StateMaps}
-use Rattle.marlowe_refusals.specs.declared.fault.RunFault.TheVariants as run
-use Rattle.marlowe_refusals.specs.declared.trace_fault.TraceFault.{TraceFault}
-use Rattle.marlowe_refusals.specs.declared.trace_fault.TraceFault.TheVariants as trace
-use Rattle.marlowe_next.specs.declared.asked.Asked.{Asked}
-use Rattle.marlowe_next.specs.Answer.{IsAnswer}
-use Rattle.marlowe_next.specs.Question.{Reached, answered}
+use Rattle.contract.specs.States.States.{StateMaps}
+use Rattle.marlowe_trace.specs.MarloweRefusals.declared.fault.RunFault.TheVariants as run
+use Rattle.marlowe_trace.specs.MarloweRefusals.declared.trace_fault.TraceFault.{TraceFault}
+use Rattle.marlowe_trace.specs.MarloweRefusals.declared.trace_fault.TraceFault.TheVariants as trace
+use Rattle.request_reasons.specs.MarloweNext.declared.asked.Asked.{Asked}
+use Rattle.request_reasons.specs.MarloweNext.Answer.{IsAnswer}
+use Rattle.request_reasons.specs.MarloweNext.Question.{Reached, answered}
 use Rattle.marlowe_analyse.specs.declared.analysed.Telling.{Telling}
 use Rattle.marlowe_analyse.specs.Printed.{TellsOfTree}
-use Rattle.request_parts.specs.Answered.{ok_answer, refused_answer, without_feed}
-use Rattle.request_parts.specs.Refusals.{trace_refused}
-use Rattle.request_parts.specs.declared.refusal.Refusal.{Refusal}
-use Rattle.request_parts.specs.declared.refusal.Refusal.TheVariants as refusals
+use Rattle.request_reasons.specs.RequestParts.Answered.{ok_answer, reasoned_answer, without_feed}
+use Rattle.request_reasons.specs.RequestParts.Refusals.{trace_refused}
+use Rattle.request_reasons.specs.RequestParts.declared.refusal.Refusal.{Refusal}
+use Rattle.request_reasons.specs.RequestParts.declared.refusal.Refusal.TheVariants as refusals
 use Rattle.serve.specs.Answers.{AnswersBy}
+use Rattle.serve.specs.Reasoned.{MayTell, WithReason}
+use Rattle.serve.specs.ReasonedSupport.{RefusedSo}
+use Rattle.serve.proofs.ReasonLemmas.{with_none, with_same}
+use Rattle.serde_json.specs.Data.{Data}
+use Rattle.marlowe_run.specs.declared.readable.Readable.{Readable}
+use Rattle.request_reasons.specs.Definitions.declared.definition.Definition.{Definition}
+use Rattle.request_reasons.specs.Requests.declared.kind.Kind.{Kind}
 use Rattle.serve.specs.Asking.{AnalysisPrints, NextPrints, Then}
 use Rattle.serve.specs.AskingSupport.{Told}
 use Rattle.serve.specs.Playing.{AnswersPlay, PlayTold, answer_seen, played_answer}
@@ -64,14 +71,17 @@ analysis_memory telling given c s = λ n. absurd (n refl)
 
 -- ---- what is answered
 
-pub answers_ok : (Tells : Result (List ℕ) Refusal → Type 0) (id line : List ℕ) (told : Text) (text : Vec ℕ Global) → Told Tells told → told ≡ Ok text → line ≡ ok_answer id text.items → AnswersBy Tells id line
-unfolding Told AnswersBy
-answers_ok Tells id line told text h is says = (Ok text.items, subst (λ (t : Text). Told Tells t) is h, says)
+module _ (r : Readable) (defs : List Definition) (kind : Kind) (body : Data) (Tells : Result (List ℕ) Refusal → Type 0) (id line : List ℕ) (told : Text) where
+  pub answers_ok : (text : Vec ℕ Global) → Told Tells told → told ≡ Ok text → line ≡ ok_answer id text.items → WithReason (MayTell r defs kind body) (AnswersBy Tells id line)
+  unfolding Told AnswersBy
+  answers_ok text h is says = with_none r defs kind body (AnswersBy Tells id line) (Ok text.items, subst (λ (t : Text). Told Tells t) is h, says)
 
-pub answers_refused : (Tells : Result (List ℕ) Refusal → Type 0) (id line : List ℕ) (told : Text) (refusal : Refusal) → Told Tells told → told ≡ Err refusal → refusal ≢ refusals.Memory → line ≡ refused_answer id refusal
-    → AnswersBy Tells id line
-unfolding Told AnswersBy
-answers_refused Tells id line told refusal h is n says = (Err refusal, subst (λ (t : Text). Told Tells t) is h n, says)
+  pub answers_refused : (refusal : Refusal) → Told Tells told → told ≡ Err refusal → refusal ≢ refusals.Memory → RefusedSo r defs kind body id refusal line
+      → WithReason (MayTell r defs kind body) (AnswersBy Tells id line)
+  unfolding Told AnswersBy RefusedSo
+  answers_refused refusal h is n says =
+      with_same (MayTell r defs kind body) (λ reason. line ≡ reasoned_answer id refusal reason) (AnswersBy Tells id line)
+      (λ reason same. (Err refusal, subst (λ (t : Text). Told Tells t) is h n, same)) says
 
 -- a play is told so
 pub plays_so : (Tells : PlayTold → Type 0) (id line : List ℕ) (answer : PlayAnswer) → Tells (answer_seen answer) → line ≡ played_answer id (answer_seen answer) → AnswersPlay Tells id line

@@ -1,3 +1,4 @@
+pub mod ReasonLemmas
 pub mod AskingLemmas
 pub mod AnswerLemmas
 pub mod StreamLemmas

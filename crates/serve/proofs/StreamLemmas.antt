@@ -7,7 +7,7 @@ use Rattle.std.specs.declared.alloc.AllocError.{AllocError}
 use Rattle.std.specs.Io.KnownBytes.{Appends, Consumes, IsAtEnd}
 use Rattle.std.specs.declared.option.Option.{Option}
 use Rattle.std.proofs.KnownBytes.{Appends-trans}
-use Rattle.definitions.specs.declared.definition.Definition.{Definition}
+use Rattle.request_reasons.specs.Definitions.declared.definition.Definition.{Definition}
 use Rattle.lines_in.specs.Held.{Held, come}
 use Rattle.lines_in.specs.Lines.{Line, lines_of}
 use Rattle.lines_in.specs.Lines as in_lines

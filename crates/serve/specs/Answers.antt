@@ -3,47 +3,52 @@ use Rattle.std.specs.Prelude.{◌≡◌, ℕ, Bool, true, false, List, length, O
 use Rattle.serde_json.specs.Data.{Data}
 use Rattle.json_tree.specs.declared.read.Refusal.{Refusal as Unread}
 use Rattle.marlowe_run.specs.declared.readable.Readable.{Readable}
-use Rattle.definitions.specs.declared.definition.Definition.{Definition}
-use Rattle.requests.specs.Ids.{SpellsId, id_of}
-use Rattle.requests.specs.Requests.{Asked, is_object, line_json, request_of}
-use Rattle.requests.specs.declared.kind.Kind.{Kind}
-use Rattle.requests.specs.declared.kind.Kind.TheVariants as kinds
+use Rattle.request_reasons.specs.Definitions.declared.definition.Definition.{Definition}
+use Rattle.request_reasons.specs.Requests.Ids.{SpellsId, id_of}
+use Rattle.request_reasons.specs.Requests.Requests.{Asked, is_object, line_json, request_of}
+use Rattle.request_reasons.specs.Requests.declared.kind.Kind.{Kind}
+use Rattle.request_reasons.specs.Requests.declared.kind.Kind.TheVariants as kinds
 use Rattle.serde_json.specs.Find.{as_str}
-use Rattle.request_parts.specs.Answered.{answered, answered_trace, refused_answer}
+use Rattle.request_reasons.specs.RequestParts.Answered.{answered, answered_trace, refused_answer}
 use Rattle.serve.specs.Commands.{run_told, table_told, trace_told}
 use Rattle.serve.specs.Asking.{TellsAnalysis, TellsNext}
 use Rattle.serve.specs.Defining.{Changes, Forgets, definition_told}
 use Rattle.serve.specs.Encoding.{bytes_told}
 use Rattle.serve.specs.Playing.{AnswersPlay, Plays, no_play}
 use Rattle.serve.specs.Reading.{read_told}
-use Rattle.request_parts.specs.declared.refusal.LineFault.TheVariants as lines
-use Rattle.request_parts.specs.declared.refusal.Refusal.{Refusal}
-use Rattle.request_parts.specs.declared.refusal.Refusal.TheVariants as refusals
+use Rattle.serve.specs.Reasoned.{MayTell, WithReason}
+use Rattle.request_reasons.specs.RequestParts.declared.refusal.LineFault.TheVariants as lines
+use Rattle.request_reasons.specs.RequestParts.declared.refusal.Refusal.{Refusal}
+use Rattle.request_reasons.specs.RequestParts.declared.refusal.Refusal.TheVariants as refusals
 
 -- the names stay
 abbrev pub Stays : List Definition → List Definition → Type 0 → Type 0
 Stays defs after tells = tells × (after ≡ defs)
 
 -- an answer under an id to what is told so
-unfoldable pub AnswersBy : (Result (List ℕ) Refusal → Type 0) → List ℕ → List ℕ → Type 0
-AnswersBy Tells id text = (told : Result (List ℕ) Refusal) × Tells told × (text ≡ answered id told)
+unfoldable pub AnswersBy : (Result (List ℕ) Refusal → Type 0) → List ℕ → List ℕ → List ℕ → Type 0
+AnswersBy Tells id text reason = (told : Result (List ℕ) Refusal) × Tells told × (text ≡ answered id told reason)
 
--- what a request is answered under an id, where plays are told so, and the names that stand behind it
-abbrev pub TellsAsked : Plays → Readable → List Definition → ℕ → Kind → Data → List ℕ → List ℕ → List Definition → Type 0
-TellsAsked plays r defs bytes kinds.Run body id text after = Stays defs after (text ≡ answered id (run_told r.text_numbers defs body))
-TellsAsked plays r defs bytes kinds.Trace body id text after = Stays defs after (text ≡ answered_trace id (trace_told r.text_numbers defs body))
-TellsAsked plays r defs bytes kinds.Next body id text after = Stays defs after (AnswersBy (TellsNext r defs body) id text)
-TellsAsked plays r defs bytes kinds.Table body id text after = Stays defs after (text ≡ answered id (table_told defs body))
-TellsAsked plays r defs bytes kinds.Analyse body id text after = Stays defs after (AnswersBy (TellsAnalysis r.text_numbers defs body) id text)
-TellsAsked plays r defs bytes kinds.Read body id text after = Stays defs after (text ≡ answered id (read_told r.text_numbers defs body))
-TellsAsked plays r defs bytes kinds.Bytes body id text after = Stays defs after (text ≡ answered id (bytes_told r.text_numbers defs body))
-TellsAsked plays r defs bytes kinds.Define body id text after = Changes bytes defs id (definition_told body) text after
-TellsAsked plays r defs bytes kinds.Forget body id text after = Forgets defs id (as_str body) text after
-TellsAsked plays r defs bytes kinds.Play body id text after = Stays defs after (AnswersPlay (plays r body) id text)
+-- what a request is answered under an id, where plays are told so, and the names that stand behind it; where it is refused, with a reason
+abbrev pub TellsAsked : Plays → Readable → List Definition → ℕ → Kind → Data → List ℕ → List ℕ → List Definition → List ℕ → Type 0
+TellsAsked plays r defs bytes kinds.Run body id text after reason = Stays defs after (text ≡ answered id (run_told r.text_numbers defs body) reason)
+TellsAsked plays r defs bytes kinds.Trace body id text after reason = Stays defs after (text ≡ answered_trace id (trace_told r.text_numbers defs body) reason)
+TellsAsked plays r defs bytes kinds.Next body id text after reason = Stays defs after (AnswersBy (TellsNext r defs body) id text reason)
+TellsAsked plays r defs bytes kinds.Table body id text after reason = Stays defs after (text ≡ answered id (table_told defs body) reason)
+TellsAsked plays r defs bytes kinds.Analyse body id text after reason = Stays defs after (AnswersBy (TellsAnalysis r.text_numbers defs body) id text reason)
+TellsAsked plays r defs bytes kinds.Read body id text after reason = Stays defs after (text ≡ answered id (read_told r.text_numbers defs body) reason)
+TellsAsked plays r defs bytes kinds.Bytes body id text after reason = Stays defs after (text ≡ answered id (bytes_told r.text_numbers defs body) reason)
+TellsAsked plays r defs bytes kinds.Define body id text after reason = Changes bytes defs id (definition_told body) text after reason
+TellsAsked plays r defs bytes kinds.Forget body id text after reason = Forgets defs id (as_str body) text after reason
+TellsAsked plays r defs bytes kinds.Play body id text after reason = Stays defs after (AnswersPlay (plays r body) id text)
+
+-- .. with one that may be told of it
+unfoldable pub AnswersAsked : Plays → Readable → List Definition → ℕ → Kind → Data → List ℕ → List ℕ → List Definition → Type 0
+AnswersAsked plays r defs bytes kind body id text after = WithReason (MayTell r defs kind body) (TellsAsked plays r defs bytes kind body id text after)
 
 -- .. where something is asked
 abbrev pub TellsRequest : Plays → Readable → List Definition → ℕ → ℕ → Option Asked → List ℕ → List ℕ → List Definition → Type 0
-TellsRequest plays r defs number bytes (Some (kind, body)) id text after = TellsAsked plays r defs bytes kind body id text after
+TellsRequest plays r defs number bytes (Some (kind, body)) id text after = AnswersAsked plays r defs bytes kind body id text after
 TellsRequest plays r defs number bytes None id text after = Stays defs after (text ≡ refused_answer id (refusals.Line lines.NoRequest number))
 
 -- .. of a value, which may be no object

@@ -1,29 +1,26 @@
 -- What `next` and `analyse` print as JSON, of a request's parts.
-use Rattle.std.specs.Prelude.{◌≡◌, ℕ, ℤ, Bool, true, false, not, List, Option, Some, None, Result, Ok, Err, codes}
+use Rattle.std.specs.Prelude.{◌≡◌, ℕ, Bool, true, false, not, List, Option, Some, None, Result, Ok, Err, codes}
 use Rattle.std.specs.Option.{option_and_then}
-use Rattle.collections.specs.Answers.{◌>>=◌}
+use Rattle.contract.specs.Collections.Answers.{◌>>=◌}
 use Rattle.contract.specs.declared.transaction.Transaction.{Transaction}
 use Rattle.contract.specs.Tree.{ContractTree, contract_tree}
-use Rattle.states.specs.States.{StateMaps}
+use Rattle.contract.specs.States.States.{StateMaps}
 use Rattle.serde_json.specs.Data.{Data}
 use Rattle.serde_json.specs.Find.{get, as_bool}
-use Rattle.json_read_names.specs.Forms.{has}
-use Rattle.json_read_names.specs.Parts.{time}
-use Rattle.marlowe_refusals.specs.Faults.{read_as}
-use Rattle.marlowe_refusals.specs.declared.trace_fault.TraceFault.{TraceFault}
+use Rattle.marlowe_trace.specs.JsonReadNames.Forms.{has}
+use Rattle.marlowe_trace.specs.MarloweRefusals.declared.trace_fault.TraceFault.{TraceFault}
 use Rattle.marlowe_run.specs.declared.readable.Readable.{Readable}
-use Rattle.marlowe_next.specs.declared.asked.Asked.{Asked}
-use Rattle.marlowe_next.specs.Answer.{IsAnswer}
-use Rattle.marlowe_next.specs.Question.{Reached, answered, reached_by}
+use Rattle.request_reasons.specs.MarloweNext.declared.asked.Asked.{Asked}
+use Rattle.request_reasons.specs.MarloweNext.Answer.{IsAnswer}
+use Rattle.request_reasons.specs.MarloweNext.Question.{Reached, answered, reached_by}
 use Rattle.marlowe_analyse.specs.declared.analysed.Telling.{Telling}
 use Rattle.marlowe_analyse.specs.Printed.{TellsOfTree}
-use Rattle.definitions.specs.declared.definition.Definition.{Definition}
-use Rattle.request_parts.specs.Answered.{without_feed}
-use Rattle.request_parts.specs.Parts.{contract_at, state_at, transactions_at}
-use Rattle.request_parts.specs.Refusals.{part_refused, trace_refused}
-use Rattle.request_parts.specs.declared.refusal.Part.{Part}
-use Rattle.request_parts.specs.declared.refusal.Part.TheVariants as parts
-use Rattle.request_parts.specs.declared.refusal.Refusal.{Refusal}
+use Rattle.request_reasons.specs.Definitions.declared.definition.Definition.{Definition}
+use Rattle.request_reasons.specs.RequestParts.Answered.{without_feed}
+use Rattle.request_reasons.specs.RequestParts.Parts.{contract_at, state_at, time_at, transactions_at}
+use Rattle.request_reasons.specs.RequestParts.Refusals.{trace_refused}
+use Rattle.request_reasons.specs.RequestParts.declared.refusal.Part.TheVariants as parts
+use Rattle.request_reasons.specs.RequestParts.declared.refusal.Refusal.{Refusal}
 
 -- a part is read, and then this is told; or why it isn't
 unfoldable pub Then : {X : Type 0} → Result X Refusal → (X → Result (List ℕ) Refusal → Type 0) → Result (List ℕ) Refusal → Type 0
@@ -31,14 +28,6 @@ Then (Ok x) Tells told = Tells x told
 Then (Err refusal) Tells told = told ≡ Err refusal
 
 -- ---- what can be done next
-
-abbrev time_or : Part → Option Data → Result (Option ℤ) Refusal
-time_or p None = Ok None
-time_or p (Some d) = read_as (part_refused p) (time d) >>= λ t. Ok (Some t)
-
--- a time at a key, if it is there
-abbrev pub time_at : Part → List ℕ → Data → Result (Option ℤ) Refusal
-time_at p key body = time_or p (get key body)
 
 -- the interval at the keys `from` and `to`
 abbrev pub asked_at : Readable → Data → Result Asked Refusal

@@ -1,21 +1,21 @@
 -- What the commands print, of a request's parts.
 use Rattle.std.specs.Prelude.{ℕ, Bool, false, List, Option, Result, Ok, Err, codes}
-use Rattle.collections.specs.Answers.{◌>>=◌}
+use Rattle.contract.specs.Collections.Answers.{◌>>=◌}
 use Rattle.contract.specs.Tree.{ContractTree, contract_tree}
 use Rattle.serde_json.specs.Data.{Data}
-use Rattle.semantics.specs.Walk.{standing}
-use Rattle.marlowe_refusals.specs.declared.trace_fault.TraceFault.{TraceFault}
-use Rattle.marlowe_refusals.specs.TraceFaults.{told_as}
+use Rattle.marlowe_trace.specs.Semantics.Walk.{standing}
+use Rattle.marlowe_trace.specs.MarloweRefusals.declared.trace_fault.TraceFault.{TraceFault}
+use Rattle.marlowe_trace.specs.MarloweRefusals.TraceFaults.{told_as}
 use Rattle.line_objects.specs.Objects.{lines_object}
 use Rattle.marlowe_run.specs.Run.{transaction_text}
 use Rattle.marlowe_run.specs.TableText.{printed_table}
 use Rattle.marlowe_trace.specs.Traced.{Told, told_of}
 use Rattle.marlowe_trace.specs.declared.texts.Traced.{Traced}
-use Rattle.definitions.specs.declared.definition.Definition.{Definition}
-use Rattle.request_parts.specs.Answered.{without_feed}
-use Rattle.request_parts.specs.Parts.{contract_at, state_at, transaction_at, transactions_at}
-use Rattle.request_parts.specs.Refusals.{run_refused, table_refused}
-use Rattle.request_parts.specs.declared.refusal.Refusal.{Refusal}
+use Rattle.request_reasons.specs.Definitions.declared.definition.Definition.{Definition}
+use Rattle.request_reasons.specs.RequestParts.Answered.{without_feed}
+use Rattle.request_reasons.specs.RequestParts.Parts.{contract_at, state_at, transaction_at, transactions_at}
+use Rattle.request_reasons.specs.RequestParts.Refusals.{run_refused, table_refused}
+use Rattle.request_reasons.specs.RequestParts.declared.refusal.Refusal.{Refusal}
 
 -- ---- one transaction
 

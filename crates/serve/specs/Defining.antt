@@ -1,20 +1,20 @@
 -- Names that come and go.
 use Rattle.std.specs.Prelude.{◌≡◌, ℕ, Bool, true, false, List, Option, Some, None, Result, Ok, Err, codes}
-use Rattle.collections.specs.Answers.{◌>>=◌}
+use Rattle.contract.specs.Collections.Answers.{◌>>=◌}
 use Rattle.contract.specs.declared.tree.Contract.{Contract}
 use Rattle.serde_json.specs.Data.{Data}
-use Rattle.json_read_names.specs.Parts.{Reading, reading_at}
-use Rattle.json_read_names.specs.declared.fault.JsonFault.TheVariants as json
-use Rattle.json_read_contracts.specs.ReadsContract.{contract}
-use Rattle.marlowe_refusals.specs.Faults.{read_as}
-use Rattle.definitions.specs.Named.{has_room, is_there, put_named, without_named}
-use Rattle.definitions.specs.declared.definition.Definition.{Definition}
-use Rattle.requests.specs.Requests.{sole_member}
-use Rattle.request_parts.specs.Answered.{ok_answer, refused_answer}
-use Rattle.request_parts.specs.Parts.{contract_refused}
-use Rattle.request_parts.specs.declared.refusal.Part.TheVariants as parts
-use Rattle.request_parts.specs.declared.refusal.Refusal.{Refusal}
-use Rattle.request_parts.specs.declared.refusal.Refusal.TheVariants as refusals
+use Rattle.marlowe_trace.specs.JsonReadNames.Parts.{Reading, reading_at}
+use Rattle.marlowe_trace.specs.JsonReadNames.declared.fault.JsonFault.TheVariants as json
+use Rattle.marlowe_trace.specs.JsonReadContracts.ReadsContract.{contract}
+use Rattle.marlowe_trace.specs.MarloweRefusals.Faults.{read_as}
+use Rattle.request_reasons.specs.Definitions.Named.{has_room, is_there, put_named, without_named}
+use Rattle.request_reasons.specs.Definitions.declared.definition.Definition.{Definition}
+use Rattle.request_reasons.specs.Requests.Requests.{sole_member}
+use Rattle.request_reasons.specs.RequestParts.Answered.{ok_answer, reasoned_answer, refused_answer}
+use Rattle.request_reasons.specs.RequestParts.Parts.{contract_refused}
+use Rattle.request_reasons.specs.RequestParts.declared.refusal.Part.TheVariants as parts
+use Rattle.request_reasons.specs.RequestParts.declared.refusal.Refusal.{Refusal}
+use Rattle.request_reasons.specs.RequestParts.declared.refusal.Refusal.TheVariants as refusals
 
 abbrev one_member : Option (List ℕ × Data) → Result (List ℕ × Data) Refusal
 one_member None = Err (refusals.Part parts.Define json.NoForm)
@@ -48,16 +48,20 @@ ChangesIfRoom false new defs id text after = (text ≡ refused_answer id refusal
 abbrev pub Puts : Definition → List Definition → List ℕ → List ℕ → List Definition → Type 0
 Puts d defs id text after = ChangesIfRoom (has_room (put_named d defs)) (put_named d defs) defs id text after
 
--- the names have one more, or it is told why they haven't
-abbrev pub Changes : ℕ → List Definition → List ℕ → Result (List ℕ × Contract) Refusal → List ℕ → List Definition → Type 0
-Changes bytes defs id (Ok told) text after = (d : Definition) × Names told bytes d × Puts d defs id text after
-Changes bytes defs id (Err refusal) text after = (text ≡ refused_answer id refusal) × (after ≡ defs)
+-- the names have one more, or it is told why they haven't, with a reason
+abbrev pub Changes : ℕ → List Definition → List ℕ → Result (List ℕ × Contract) Refusal → List ℕ → List Definition → List ℕ → Type 0
+Changes bytes defs id (Ok told) text after reason = (d : Definition) × Names told bytes d × Puts d defs id text after
+Changes bytes defs id (Err refusal) text after reason = (text ≡ reasoned_answer id refusal reason) × (after ≡ defs)
 
 abbrev truth : Bool → List ℕ
 truth true = codes "true"
 truth false = codes "false"
 
 -- a name is taken away, and it is told whether it was there
-abbrev pub Forgets : List Definition → List ℕ → Option (List ℕ) → List ℕ → List Definition → Type 0
-Forgets defs id (Some name) text after = (text ≡ ok_answer id (truth (is_there name defs))) × (after ≡ without_named name defs)
-Forgets defs id None text after = (text ≡ refused_answer id (refusals.Part parts.Forget json.NoForm)) × (after ≡ defs)
+abbrev pub TakesAway : List Definition → List ℕ → List ℕ → List ℕ → List Definition → Type 0
+TakesAway defs id name text after = (text ≡ ok_answer id (truth (is_there name defs))) × (after ≡ without_named name defs)
+
+-- .. or it is told that it is none, with a reason
+abbrev pub Forgets : List Definition → List ℕ → Option (List ℕ) → List ℕ → List Definition → List ℕ → Type 0
+Forgets defs id (Some name) text after reason = TakesAway defs id name text after
+Forgets defs id None text after reason = (text ≡ reasoned_answer id (refusals.Part parts.Forget json.NoForm) reason) × (after ≡ defs)

@@ -1,6 +1,6 @@
 -- The one encoding of what stands in a request, and its digest.
 use Rattle.std.specs.Prelude.{ℕ, Bool, List, ◌++◌, Option, Some, None, Result, Ok, Err, codes, if◌then◌else◌}
-use Rattle.collections.specs.Answers.{◌>>=◌}
+use Rattle.contract.specs.Collections.Answers.{◌>>=◌}
 use Rattle.contract.specs.Tree.{ContractTree, contract_tree}
 use Rattle.contract_bytes.specs.Names.{party_bytes, token_bytes}
 use Rattle.contract_bytes.specs.Numbers.{text_bytes}
@@ -11,16 +11,16 @@ use Rattle.hex.specs.Hex.{encode_lower}
 use Rattle.sha2.specs.Sha256.{sha256}
 use Rattle.serde_json.specs.Data.{Data}
 use Rattle.serde_json.specs.Find.{get}
-use Rattle.json_read_names.specs.Forms.{has}
-use Rattle.json_read_names.specs.Parts.{bytes}
-use Rattle.json_read_names.specs.declared.fault.JsonFault.TheVariants as json
-use Rattle.marlowe_refusals.specs.Faults.{read_as}
-use Rattle.definitions.specs.declared.definition.Definition.{Definition}
-use Rattle.request_parts.specs.Parts.{contract_at, input_at, party_at, state_at, token_at}
-use Rattle.request_parts.specs.Refusals.{part_refused}
-use Rattle.request_parts.specs.declared.refusal.Part.TheVariants as parts
-use Rattle.request_parts.specs.declared.refusal.Refusal.{Refusal}
-use Rattle.request_parts.specs.declared.refusal.Refusal.TheVariants as refusals
+use Rattle.marlowe_trace.specs.JsonReadNames.Forms.{has}
+use Rattle.marlowe_trace.specs.JsonReadNames.Parts.{bytes}
+use Rattle.marlowe_trace.specs.JsonReadNames.declared.fault.JsonFault.TheVariants as json
+use Rattle.marlowe_trace.specs.MarloweRefusals.Faults.{read_as}
+use Rattle.request_reasons.specs.Definitions.declared.definition.Definition.{Definition}
+use Rattle.request_reasons.specs.RequestParts.Parts.{contract_at, input_at, party_at, state_at, token_at}
+use Rattle.request_reasons.specs.RequestParts.Refusals.{part_refused}
+use Rattle.request_reasons.specs.RequestParts.declared.refusal.Part.TheVariants as parts
+use Rattle.request_reasons.specs.RequestParts.declared.refusal.Refusal.{Refusal}
+use Rattle.request_reasons.specs.RequestParts.declared.refusal.Refusal.TheVariants as refusals
 
 abbrev script_or : List ℕ → Option Data → Result (List ℕ) Refusal
 script_or encoding None = Ok encoding

@@ -3,7 +3,7 @@ use Rattle.std.specs.Prelude.{◌≡◌, ℕ, List, [], ◌++◌, Result, Ok, Er
 use Rattle.serde_json.specs.Data.{Data}
 use Rattle.marlowe_run.specs.declared.readable.Readable.{Readable}
 use Rattle.refusal_objects.specs.Objects.{named, refused_object}
-use Rattle.request_parts.specs.Answered.{begun, listed, ok_answer}
+use Rattle.request_reasons.specs.RequestParts.Answered.{begun, listed, ok_answer}
 use Rattle.serve.specs.declared.player.PlayAnswer.{PlayAnswer}
 use Rattle.serve.specs.declared.player.PlayAnswer.TheVariants.{Told, Refused}
 

@@ -1,23 +1,23 @@
 -- The canonical text of what stands in a request.
 use Rattle.std.specs.Prelude.{ℕ, Bool, true, List, Result, Ok, Err, codes, if◌then◌else◌}
-use Rattle.collections.specs.Answers.{◌>>=◌}
+use Rattle.contract.specs.Collections.Answers.{◌>>=◌}
 use Rattle.contract.specs.Tree.{contract_tree}
 use Rattle.serde_json.specs.Data.{Data}
 use Rattle.serde_json.specs.Written.{compact_text}
-use Rattle.json_read_names.specs.Forms.{has}
-use Rattle.json_read_names.specs.declared.fault.JsonFault.TheVariants as json
-use Rattle.json_write_contracts.specs.Written.{in_range}
-use Rattle.json_write_contracts.specs.WrittenContract.{contract_json, contract_fits}
-use Rattle.json_write_outcomes.specs.WrittenOutcome.{state_json}
-use Rattle.contract_json.specs.WrittenInput.{input_json, input_fits, transaction_json, transaction_fits}
-use Rattle.marlowe_refusals.specs.Faults.{write_fault}
-use Rattle.marlowe_refusals.specs.TraceFaults.{told_as}
-use Rattle.definitions.specs.declared.definition.Definition.{Definition}
-use Rattle.request_parts.specs.Parts.{contract_at, state_at, transaction_at, input_at}
-use Rattle.request_parts.specs.Refusals.{run_refused}
-use Rattle.request_parts.specs.declared.refusal.Part.TheVariants as parts
-use Rattle.request_parts.specs.declared.refusal.Refusal.{Refusal}
-use Rattle.request_parts.specs.declared.refusal.Refusal.TheVariants as refusals
+use Rattle.marlowe_trace.specs.JsonReadNames.Forms.{has}
+use Rattle.marlowe_trace.specs.JsonReadNames.declared.fault.JsonFault.TheVariants as json
+use Rattle.marlowe_trace.specs.JsonWriteContracts.Written.{in_range}
+use Rattle.marlowe_trace.specs.JsonWriteContracts.WrittenContract.{contract_json, contract_fits}
+use Rattle.marlowe_trace.specs.JsonWriteOutcomes.WrittenOutcome.{state_json}
+use Rattle.marlowe_trace.specs.ContractJson.WrittenInput.{input_json, input_fits, transaction_json, transaction_fits}
+use Rattle.marlowe_trace.specs.MarloweRefusals.Faults.{write_fault}
+use Rattle.marlowe_trace.specs.MarloweRefusals.TraceFaults.{told_as}
+use Rattle.request_reasons.specs.Definitions.declared.definition.Definition.{Definition}
+use Rattle.request_reasons.specs.RequestParts.Parts.{contract_at, state_at, transaction_at, input_at}
+use Rattle.request_reasons.specs.RequestParts.Refusals.{run_refused}
+use Rattle.request_reasons.specs.RequestParts.declared.refusal.Part.TheVariants as parts
+use Rattle.request_reasons.specs.RequestParts.declared.refusal.Refusal.{Refusal}
+use Rattle.request_reasons.specs.RequestParts.declared.refusal.Refusal.TheVariants as refusals
 
 -- a text, where JSON has all numbers
 abbrev pub written : Bool → List ℕ → Result (List ℕ) Refusal

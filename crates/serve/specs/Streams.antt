@@ -1,7 +1,7 @@
 -- What a whole stream is answered.
 use Rattle.std.specs.Prelude.{◌≡◌, ◌⊎◌, ℕ, suc, List, [], ◌∷◌, ◌++◌, codes, Some, None}
 use Rattle.std.specs.declared.option.Option.{Option}
-use Rattle.definitions.specs.declared.definition.Definition.{Definition}
+use Rattle.request_reasons.specs.Definitions.declared.definition.Definition.{Definition}
 use Rattle.lines_in.specs.Lines.{Line, lines_of, text, too_long}
 use Rattle.marlowe_run.specs.declared.readable.Readable.{Readable}
 use Rattle.serve.specs.Answers.{IsAnswerWith, IsTooLongAnswer}

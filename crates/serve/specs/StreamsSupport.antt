@@ -5,7 +5,7 @@ use Rattle.std.specs.declared.vec.Vec.{Vec}
 use Rattle.std.specs.declared.alloc.Global.{Global}
 use Rattle.std.specs.declared.alloc.AllocError.{AllocError}
 use Rattle.std.specs.Io.KnownBytes.{Appends}
-use Rattle.definitions.specs.declared.definition.Definition.{Definition}
+use Rattle.request_reasons.specs.Definitions.declared.definition.Definition.{Definition}
 use Rattle.lines_in.specs.Held.{Held, come}
 use Rattle.lines_in.specs.Lines.{Line, lines_of}
 use Rattle.marlowe_run.specs.declared.readable.Readable.{Readable}

@@ -2,18 +2,16 @@
 ghost use Rattle.std.specs.Prelude.{◌≡◌};
 ghost use Rattle.contract.specs.Tree.{contract_tree};
 ghost use Rattle.json_tree.specs.View.{view};
-ghost use Rattle.request_parts.specs.Answered.{without_feed};
-ghost use Rattle.request_parts.specs.PartsSupport.{AllFit};
+ghost use Rattle.request_reasons.specs.RequestParts.Answered.{without_feed};
+ghost use Rattle.request_reasons.specs.RequestParts.PartsSupport.{AllFit};
 ghost use Rattle.serve.specs.Asking.{AnalysisPrints, TellsAnalysis, TellsAnalysisOf, is_true_at, telling_of};
 ghost use Rattle.serve.specs.AskingSupport.{Told};
 
 use contract::{Contract, State};
-use definitions::Definitions;
-use json_read_names::has;
 use json_tree::{Json, JsonValue};
 use marlowe_analyse::{Analysed, Telling, analysis_text};
-use marlowe_run::beside_dropped;
-use request_parts::{Refusal, contract_at, state_at, without_feed};
+use marlowe_trace::{beside_dropped, has};
+use request_reasons::{Definitions, Refusal, contract_at, state_at, without_feed};
 use std::alloc::Global;
 
 // The analysis of a contract from a state, as JSON, on a line of so many bytes.

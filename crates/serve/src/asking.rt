@@ -1,19 +1,20 @@
 //! What can be done next, as `next` prints it as JSON.
-ghost use Rattle.collections.specs.Answers.{Aside};
+ghost use Rattle.contract.specs.Collections.Answers.{Aside};
 ghost use Rattle.contract.specs.Tree.{contract_tree};
 ghost use Rattle.json_tree.specs.View.{view};
-ghost use Rattle.marlowe_next.specs.Question.{reached_by};
-ghost use Rattle.request_parts.specs.PartsSupport.{AllFit};
-ghost use Rattle.serve.specs.Asking.{NextPrints, TellsNext, TellsNextBehind, TellsNextFrom, TellsNextOf, asked_at, time_at};
+ghost use Rattle.request_reasons.specs.MarloweNext.Question.{reached_by};
+ghost use Rattle.request_reasons.specs.RequestParts.PartsSupport.{AllFit};
+ghost use Rattle.serve.specs.Asking.{NextPrints, TellsNext, TellsNextBehind, TellsNextFrom, TellsNextOf, asked_at};
 ghost use Rattle.serve.specs.AskingSupport.{Told};
 
 use contract::{Contract, State, Transaction};
-use definitions::Definitions;
-use json_read_names::read_time;
-use json_tree::{Json, JsonValue};
-use marlowe_next::{Asked, next_after};
-use marlowe_run::{Readable, beside_dropped};
-use request_parts::{Part, Refusal, contract_at, state_at, transactions_at, without_feed};
+use json_tree::Json;
+use marlowe_run::Readable;
+use marlowe_trace::beside_dropped;
+use request_reasons::{
+    Asked, Definitions, Part, Refusal, contract_at, next_after, state_at, time_at, transactions_at,
+    without_feed,
+};
 use std::alloc::Global;
 
 // What can be done next, as JSON.
@@ -128,17 +129,4 @@ fn asked_at(readable: Readable, body: &Json<'_>) -> Result<Asked, Refusal>
         readable,
         json: true,
     })
-}
-
-// A time at a key, if it is there.
-fn time_at(part: Part, key: &str, body: &Json<'_>) -> Result<Option<i64>, Refusal>
-    ensures { Aside Refusal.Memory result (time_at part key.now (view body.now)) }
-{
-    match body.member(key) {
-        Some(json) => match read_time(json) {
-            Ok(time) => Ok(Some(time)),
-            Err(fault) => Err(Refusal::of_part(part, fault)),
-        },
-        None => Ok(None),
-    }
 }

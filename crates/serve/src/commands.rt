@@ -1,20 +1,18 @@
 //! What the commands print, of a request's parts.
 ghost use Rattle.std.specs.Prelude.{◌≡◌, true};
-ghost use Rattle.collections.specs.Answers.{AsideBy};
+ghost use Rattle.contract.specs.Collections.Answers.{AsideBy};
 ghost use Rattle.contract.specs.Tree.{contract_tree};
 ghost use Rattle.json_tree.specs.View.{view};
-ghost use Rattle.json_write_contracts.specs.WrittenContract.{contract_fits};
-ghost use Rattle.request_parts.specs.PartsSupport.{AllFit};
+ghost use Rattle.marlowe_trace.specs.JsonWriteContracts.WrittenContract.{contract_fits};
+ghost use Rattle.request_reasons.specs.RequestParts.PartsSupport.{AllFit};
 ghost use Rattle.serve.specs.Commands.{run_told, run_with, table_of, table_told, trace_seen, trace_told, trace_with};
 
 use contract::Contract;
-use definitions::Definitions;
 use json_tree::Json;
 use line_objects::lines_object;
-use marlowe_run::{beside_dropped, outcome_text, printed_table};
-use marlowe_trace::{Traced, traced};
-use request_parts::{
-    Refusal, contract_at, state_at, transaction_at, transactions_at, without_feed,
+use marlowe_trace::{Traced, beside_dropped, outcome_text, printed_table, traced};
+use request_reasons::{
+    Definitions, Refusal, contract_at, state_at, transaction_at, transactions_at, without_feed,
 };
 use std::alloc::Global;
 

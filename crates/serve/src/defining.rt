@@ -1,25 +1,26 @@
 //! Names that come and go.
 ghost use Rattle.std.specs.Prelude.{◌≡◌, true, Ok, IfOk, OnErr};
-ghost use Rattle.collections.specs.Answers.{AsideBy};
+ghost use Rattle.contract.specs.Collections.Answers.{AsideBy};
 ghost use Rattle.contract.specs.Tree.{contract_tree};
 ghost use Rattle.json_tree.specs.View.{view};
-ghost use Rattle.json_write_contracts.specs.WrittenContract.{contract_fits};
+ghost use Rattle.marlowe_trace.specs.JsonWriteContracts.WrittenContract.{contract_fits};
 ghost use Rattle.serde_json.specs.Find.{as_str};
 ghost use Rattle.serde_json.specs.View.{view as value_view};
-ghost use Rattle.serve.specs.Defining.{Changes, Forgets, definition_told, named_by, named_reading, named_so};
-ghost use Rattle.json_read_contracts.specs.ReadsContract.{contract};
-ghost use Rattle.request_parts.specs.PartsSupport.{AllFit};
+ghost use Rattle.serve.specs.Defining.{Changes, Forgets, TakesAway, definition_told, named_by, named_reading, named_so};
+ghost use Rattle.marlowe_trace.specs.JsonReadContracts.ReadsContract.{contract};
+ghost use Rattle.request_reasons.specs.RequestParts.PartsSupport.{AllFit};
+ghost use Rattle.request_reasons.specs.Requests.declared.kind.Kind.TheVariants as kinds;
+ghost use Rattle.serve.specs.Reasoned.{MayTell, WithReason};
 
-use collections::{Memory, Text};
-use contract::Contract;
-use contract_json::contract_from_json;
-use definitions::{DefineFault, Definition, Definitions};
-use json_read_names::JsonFault;
+use crate::refusing::refused;
+use contract::{Contract, Memory, Text};
 use json_tree::{Json, JsonValue};
-use marlowe_refusals::RunFault;
-use marlowe_run::beside_dropped;
-use request_parts::{Part, Refusal, ok_answer, refused_answer};
-use requests::{sole_member, value_of};
+use marlowe_run::Readable;
+use marlowe_trace::{JsonFault, RunFault, beside_dropped, contract_from_json};
+use request_reasons::{
+    DefineFault, Definition, Definitions, Kind, Part, Refusal, ok_answer, refused_answer,
+    sole_member, value_of,
+};
 use serde_json::Value;
 use std::alloc::{AllocError, Global};
 
@@ -27,14 +28,15 @@ use std::alloc::{AllocError, Global};
 #[tactic(auto, using(crate::proofs::AnswerLemmas::define_steps))]
 pub(crate) fn define(
     alloc: Global,
+    readable: Readable,
     definitions: &mut Definitions,
     bytes: usize,
     body: &Json<'_>,
     id: &[u8],
 ) -> Result<Vec<u8>, Memory>
     requires { AllFit (view body.now) }
-    ensures answer { IfOk result (λ text.
-        Changes bytes definitions.old id.now (definition_told (view body.now)) text.items definitions.new) }
+    ensures answer { IfOk result (λ text. WithReason (MayTell readable definitions.old kinds.Define (view body.now))
+        (Changes bytes definitions.old id.now (definition_told (view body.now)) text.items definitions.new)) }
     ensures err { OnErr result (definitions.new ≡ definitions.old) }
 {
     let answer = ok_answer(alloc, id, b"true")?;
@@ -45,7 +47,15 @@ pub(crate) fn define(
             Err(DefineFault::Memory) => Err(AllocError),
         },
         Err(Refusal::Memory) => Err(AllocError),
-        Err(refusal) => refused_answer(alloc, id, refusal),
+        Err(refusal) => refused(
+            alloc,
+            readable,
+            definitions,
+            Kind::Define,
+            body,
+            id,
+            refusal,
+        ),
     }
 }
 
@@ -112,18 +122,46 @@ fn defined(
 }
 
 // Takes a name away, and tells whether it was there.
+#[tactic(auto, using(crate::proofs::AnswerLemmas::forget_steps))]
 pub(crate) fn forget(
     alloc: Global,
+    readable: Readable,
     definitions: &mut Definitions,
     body: &Json<'_>,
     id: &[u8],
 ) -> Result<Vec<u8>, Memory>
-    ensures answer { IfOk result (λ text. Forgets definitions.old id.now (as_str (view body.now)) text.items definitions.new) }
+    requires { AllFit (view body.now) }
+    ensures answer { IfOk result (λ text. WithReason (MayTell readable definitions.old kinds.Forget (view body.now))
+        (Forgets definitions.old id.now (as_str (view body.now)) text.items definitions.new)) }
     ensures err { OnErr result (definitions.new ≡ definitions.old) }
 {
-    let Some(name) = body.text() else {
-        return refused_answer(alloc, id, Refusal::Part(Part::Forget, JsonFault::NoForm));
-    };
+    match body.text() {
+        Some(name) => taken_away(alloc, definitions, name, id),
+        None => {
+            let refusal = Refusal::Part(Part::Forget, JsonFault::NoForm);
+            refused(
+                alloc,
+                readable,
+                definitions,
+                Kind::Forget,
+                body,
+                id,
+                refusal,
+            )
+        }
+    }
+}
+
+// Takes this name away.
+fn taken_away(
+    alloc: Global,
+    definitions: &mut Definitions,
+    name: &str,
+    id: &[u8],
+) -> Result<Vec<u8>, Memory>
+    ensures answer { IfOk result (λ text. TakesAway definitions.old id.now name.now text.items definitions.new) }
+    ensures err { OnErr result (definitions.new ≡ definitions.old) }
+{
     let answer = if definitions.contract(name).is_some() {
         ok_answer(alloc, id, b"true")?
     } else {

@@ -1,21 +1,20 @@
 //! The one encoding of what stands in a request, and its digest.
 ghost use Rattle.std.specs.Prelude.{◌≡◌, IfOk};
-ghost use Rattle.collections.specs.Answers.{AsideBy};
+ghost use Rattle.contract.specs.Collections.Answers.{AsideBy};
 ghost use Rattle.contract.specs.Tree.{contract_tree};
 ghost use Rattle.json_tree.specs.View.{view};
 ghost use Rattle.serve.specs.Encoding.{bytes_object, bytes_told, contract_encoded, encoded, script_bytes};
-ghost use Rattle.request_parts.specs.PartsSupport.{AllFit};
+ghost use Rattle.request_reasons.specs.RequestParts.PartsSupport.{AllFit};
 
-use collections::Memory;
-use contract::Contract;
+use contract::{Contract, Memory};
 use contract_bytes::{
     encode_contract, encode_input, encode_party, encode_state, encode_token, put_bytes,
 };
-use definitions::Definitions;
-use json_read_names::{JsonFault, read_bytes};
 use json_tree::{Json, JsonValue};
-use marlowe_run::beside_dropped;
-use request_parts::{Part, Refusal, contract_at, input_at, party_at, state_at, token_at};
+use marlowe_trace::{JsonFault, beside_dropped, read_bytes};
+use request_reasons::{
+    Definitions, Part, Refusal, contract_at, input_at, party_at, state_at, token_at,
+};
 use sha2::{Digest, Sha256};
 use std::alloc::Global;
 

@@ -13,8 +13,24 @@ mod encoding;
 mod line_answers;
 mod player;
 mod reading;
+mod refusing;
 mod stream;
 
 pub use line_answers::{answer, answer_too_long, answer_with};
+pub use line_objects::lines_object;
+pub use lines_in::LONGEST_LINE;
+pub use marlowe_analyse::{Analysed, Telling, analyse_text};
+pub use marlowe_io::{
+    LoadFault, ReaderSource, ShortSink, ShortSource, Sink, WriterSink, emit, output,
+};
+pub use marlowe_trace::{
+    Asked, Readable, Traced, beside_dropped, run_within, table_text_within, trace,
+};
 pub use player::{NoPlayer, PlayAnswer, Player};
+pub use refusal_objects::{members, named_members, refused_line, status};
+pub use request_reasons::{
+    Behind, Definitions, Json, JsonValue, Numbers, Over, ScenarioSort, Sort, Source, Sources,
+    Spelling, from_slice, next, put_next, reasons, scenario_reasons, table_reasons, text_if,
+    value_of,
+};
 pub use stream::{Ended, serve, serve_with};

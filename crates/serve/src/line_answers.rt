@@ -1,12 +1,17 @@
 //! The answer to a line.
 ghost use Rattle.std.specs.Prelude.{◌≡◌, ◌++◌, ◌<◌, ◌^◌, [], codes, Err, IfOk, OnErr};
 ghost use Rattle.json_tree.specs.View.{view};
-ghost use Rattle.request_parts.specs.Answered.{answered_trace, begun};
-ghost use Rattle.serve.specs.Answers.{AnswersBy, IsAnswer, IsAnswerOf, IsAnswerWith, IsTooLongAnswer, TellsAsked};
+ghost use Rattle.request_reasons.specs.RequestParts.Answered.{begun};
+ghost use Rattle.serve.specs.Answers.{AnswersAsked, AnswersBy, IsAnswer, IsAnswerOf, IsAnswerWith, IsTooLongAnswer};
 ghost use Rattle.serve.specs.Asking.{TellsAnalysis, TellsNext};
-ghost use Rattle.serve.specs.Commands.{trace_told};
+ghost use Rattle.serve.specs.Commands.{run_told, table_told, trace_told};
+ghost use Rattle.serve.specs.Encoding.{bytes_told};
 ghost use Rattle.serve.specs.Playing.{AnswersPlay, answer_seen, played_answer};
-ghost use Rattle.request_parts.specs.PartsSupport.{AllFit};
+ghost use Rattle.serve.specs.Reading.{read_told};
+ghost use Rattle.serve.specs.Reasoned.{MayTell, WithReason};
+ghost use Rattle.serve.specs.ReasonedSupport.{AnsweredSo, TracedSo};
+ghost use Rattle.request_reasons.specs.RequestParts.PartsSupport.{AllFit};
+ghost use Rattle.request_reasons.specs.Requests.declared.kind.Kind.TheVariants as kinds;
 
 use crate::analysing::analysis;
 use crate::asking::next;
@@ -15,16 +20,17 @@ use crate::defining::{define, forget};
 use crate::encoding::bytes as encoding;
 use crate::player::{NoPlayer, PlayAnswer, Player};
 use crate::reading::read;
-use collections::Memory;
-use contract_json::what_is_read_of_parts_can_be_written;
-use definitions::Definitions;
+use crate::refusing::{outcomes_answer, refused, told_answer};
+use contract::Memory;
 use json::Scratch;
 use json_tree::Json;
-use marlowe_run::{Readable, beside_dropped};
-use marlowe_trace::Traced;
+use marlowe_run::Readable;
+use marlowe_trace::{beside_dropped, what_is_read_of_parts_can_be_written};
 use refusal_objects::refused_object;
-use request_parts::{LineFault, Refusal, answered, ok_answer, refused_answer, traced_answer};
-use requests::{Kind, id_text, is_object, line_json, request};
+use request_reasons::{
+    Definitions, Kind, LineFault, Refusal, id_text, is_object, line_json, ok_answer,
+    refused_answer, request, traced_answer,
+};
 use std::alloc::{AllocError, Global};
 
 /// The answer to a line of this number, from 1, where these contracts have names: a JSON object with the line's `id`, and `ok` with
@@ -123,6 +129,7 @@ fn answer_of<P: Player>(
 }
 
 // The answer to a request.
+#[tactic(auto, using(crate::proofs::ReasonLemmas::asked_steps))]
 fn request_answer<P: Player>(
     alloc: Global,
     player: &P,
@@ -135,22 +142,85 @@ fn request_answer<P: Player>(
 ) -> Result<Vec<u8>, Memory>
     requires fits { AllFit (view body.now) }
     requires may { P.may player.now }
-    ensures answer { IfOk result (λ text. TellsAsked P.tells readable definitions.old bytes kind (view body.now) id.now text.items definitions.new) }
+    ensures answer { IfOk result (λ text. AnswersAsked P.tells readable definitions.old bytes kind (view body.now) id.now text.items definitions.new) }
     ensures err { OnErr result (definitions.new ≡ definitions.old) }
 {
-    let texts = readable.text_numbers;
     match kind {
-        Kind::Run => answered(alloc, id, run(alloc, texts, definitions, body)),
-        Kind::Trace => trace_answer(alloc, texts, definitions, body, id),
+        Kind::Run => run_answer(alloc, readable, definitions, body, id),
+        Kind::Trace => trace_answer(alloc, readable, definitions, body, id),
         Kind::Next => next_answer(alloc, readable, definitions, body, id),
-        Kind::Table => answered(alloc, id, table(alloc, definitions, body)),
-        Kind::Analyse => analysis_answer(alloc, texts, definitions, bytes, body, id),
-        Kind::Read => answered(alloc, id, read(alloc, texts, definitions, body)),
-        Kind::Define => define(alloc, definitions, bytes, body, id),
-        Kind::Forget => forget(alloc, definitions, body, id),
-        Kind::Bytes => answered(alloc, id, encoding(alloc, texts, definitions, body)),
+        Kind::Table => table_answer(alloc, readable, definitions, body, id),
+        Kind::Analyse => analysis_answer(alloc, readable, definitions, bytes, body, id),
+        Kind::Read => read_answer(alloc, readable, definitions, body, id),
+        Kind::Define => define(alloc, readable, definitions, bytes, body, id),
+        Kind::Forget => forget(alloc, readable, definitions, body, id),
+        Kind::Bytes => bytes_answer(alloc, readable, definitions, body, id),
         Kind::Play => play_answer(alloc, player, readable, body, id),
     }
+}
+
+// The answer to one transaction.
+fn run_answer(
+    alloc: Global,
+    readable: Readable,
+    definitions: &Definitions,
+    body: &Json<'_>,
+    id: &[u8],
+) -> Result<Vec<u8>, Memory>
+    requires { AllFit (view body.now) }
+    ensures { IfOk result (λ text. AnsweredSo readable definitions.now kinds.Run (view body.now) id.now
+        (run_told readable.text_numbers definitions.now (view body.now)) text.items) }
+{
+    let told = run(alloc, readable.text_numbers, definitions, body);
+    told_answer(alloc, readable, definitions, Kind::Run, body, id, told)
+}
+
+// .. to a contract's table.
+fn table_answer(
+    alloc: Global,
+    readable: Readable,
+    definitions: &Definitions,
+    body: &Json<'_>,
+    id: &[u8],
+) -> Result<Vec<u8>, Memory>
+    requires { AllFit (view body.now) }
+    ensures { IfOk result (λ text. AnsweredSo readable definitions.now kinds.Table (view body.now) id.now
+        (table_told definitions.now (view body.now)) text.items) }
+{
+    let told = table(alloc, definitions, body);
+    told_answer(alloc, readable, definitions, Kind::Table, body, id, told)
+}
+
+// .. to a value.
+fn read_answer(
+    alloc: Global,
+    readable: Readable,
+    definitions: &Definitions,
+    body: &Json<'_>,
+    id: &[u8],
+) -> Result<Vec<u8>, Memory>
+    requires { AllFit (view body.now) }
+    ensures { IfOk result (λ text. AnsweredSo readable definitions.now kinds.Read (view body.now) id.now
+        (read_told readable.text_numbers definitions.now (view body.now)) text.items) }
+{
+    let told = read(alloc, readable.text_numbers, definitions, body);
+    told_answer(alloc, readable, definitions, Kind::Read, body, id, told)
+}
+
+// .. or to its encoding.
+fn bytes_answer(
+    alloc: Global,
+    readable: Readable,
+    definitions: &Definitions,
+    body: &Json<'_>,
+    id: &[u8],
+) -> Result<Vec<u8>, Memory>
+    requires { AllFit (view body.now) }
+    ensures { IfOk result (λ text. AnsweredSo readable definitions.now kinds.Bytes (view body.now) id.now
+        (bytes_told readable.text_numbers definitions.now (view body.now)) text.items) }
+{
+    let told = encoding(alloc, readable.text_numbers, definitions, body);
+    told_answer(alloc, readable, definitions, Kind::Bytes, body, id, told)
 }
 
 // The answer to what can be done next.
@@ -163,12 +233,13 @@ fn next_answer(
     id: &[u8],
 ) -> Result<Vec<u8>, Memory>
     requires { AllFit (view body.now) }
-    ensures { IfOk result (λ text. AnswersBy (TellsNext readable definitions.now (view body.now)) id.now text.items) }
+    ensures { IfOk result (λ text. WithReason (MayTell readable definitions.now kinds.Next (view body.now))
+        (AnswersBy (TellsNext readable definitions.now (view body.now)) id.now text.items)) }
 {
     match next(alloc, readable, definitions, body) {
         Ok(text) => ok_answer(alloc, id, text.as_slice()),
         Err(Refusal::Memory) => Err(AllocError),
-        Err(refusal) => refused_answer(alloc, id, refusal),
+        Err(refusal) => refused(alloc, readable, definitions, Kind::Next, body, id, refusal),
     }
 }
 
@@ -176,37 +247,56 @@ fn next_answer(
 #[tactic(auto, using(crate::proofs::AskingLemmas::by_steps))]
 fn analysis_answer(
     alloc: Global,
-    texts: bool,
+    readable: Readable,
     definitions: &Definitions,
     bytes: usize,
     body: &Json<'_>,
     id: &[u8],
 ) -> Result<Vec<u8>, Memory>
     requires { AllFit (view body.now) }
-    ensures { IfOk result (λ text. AnswersBy (TellsAnalysis texts definitions.now (view body.now)) id.now text.items) }
+    ensures { IfOk result (λ text. WithReason (MayTell readable definitions.now kinds.Analyse (view body.now))
+        (AnswersBy (TellsAnalysis readable.text_numbers definitions.now (view body.now)) id.now text.items)) }
 {
-    match analysis(alloc, texts, definitions, bytes, body) {
+    match analysis(alloc, readable.text_numbers, definitions, bytes, body) {
         Ok(text) => ok_answer(alloc, id, text.as_slice()),
         Err(Refusal::Memory) => Err(AllocError),
-        Err(refusal) => refused_answer(alloc, id, refusal),
+        Err(refusal) => refused(
+            alloc,
+            readable,
+            definitions,
+            Kind::Analyse,
+            body,
+            id,
+            refusal,
+        ),
     }
 }
 
 // The answer to transactions one after another.
+#[tactic(auto, using(crate::proofs::ReasonLemmas::trace_steps))]
 fn trace_answer(
     alloc: Global,
-    texts: bool,
+    readable: Readable,
     definitions: &Definitions,
     body: &Json<'_>,
     id: &[u8],
 ) -> Result<Vec<u8>, Memory>
     requires { AllFit (view body.now) }
-    ensures { IfOk result (λ text. text.items ≡ answered_trace id.now (trace_told texts definitions.now (view body.now))) }
+    ensures { IfOk result (λ text. TracedSo readable definitions.now (view body.now) id.now
+        (trace_told readable.text_numbers definitions.now (view body.now)) text.items) }
 {
-    match trace(alloc, texts, definitions, body) {
-        Ok(Traced { text, refused }) => traced_answer(alloc, id, text.as_slice(), refused),
+    match trace(alloc, readable.text_numbers, definitions, body) {
+        Ok(told) => outcomes_answer(
+            alloc,
+            readable,
+            definitions,
+            body,
+            id,
+            told.text.as_slice(),
+            told.refused,
+        ),
         Err(Refusal::Memory) => Err(AllocError),
-        Err(refusal) => refused_answer(alloc, id, refusal),
+        Err(refusal) => refused(alloc, readable, definitions, Kind::Trace, body, id, refusal),
     }
 }
 
@@ -231,7 +321,7 @@ fn played_answer(alloc: Global, answer: &PlayAnswer, id: &[u8]) -> Result<Vec<u8
     ensures { IfOk result (λ text. text.items ≡ played_answer id.now (answer_seen answer.now)) }
 {
     match answer {
-        PlayAnswer::Told(lines) => traced_answer(alloc, id, lines.as_slice(), None),
+        PlayAnswer::Told(lines) => traced_answer(alloc, id, lines.as_slice(), None, b""),
         PlayAnswer::Refused(members) => refused_play(alloc, id, members.as_slice()),
     }
 }

@@ -5,7 +5,7 @@ ghost use Rattle.marlowe_run.specs.declared.readable.Readable.{Readable};
 ghost use Rattle.serde_json.specs.Data.{Data};
 ghost use Rattle.serve.specs.Playing.{answer_seen, no_play};
 
-use collections::Memory;
+use contract::Memory;
 use json_tree::Json;
 use marlowe_run::Readable;
 use refusal_objects::named_members;

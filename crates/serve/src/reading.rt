@@ -1,18 +1,16 @@
 //! The canonical text of what stands in a request.
 ghost use Rattle.std.specs.Prelude.{◌≡◌};
-ghost use Rattle.collections.specs.Answers.{AsideBy};
+ghost use Rattle.contract.specs.Collections.Answers.{AsideBy};
 ghost use Rattle.json_tree.specs.View.{view};
 ghost use Rattle.serde_json.specs.Written.{compact_text};
-ghost use Rattle.request_parts.specs.PartsSupport.{AllFit};
+ghost use Rattle.request_reasons.specs.RequestParts.PartsSupport.{AllFit};
 ghost use Rattle.serve.specs.Reading.{contract_read, input_read, read_told, state_read, transaction_read, written};
 
-use contract_json::PutJson;
-use definitions::Definitions;
-use json_read_names::JsonFault;
 use json_tree::{Json, JsonValue};
-use marlowe_refusals::RunFault;
-use marlowe_run::beside_dropped;
-use request_parts::{Part, Refusal, contract_at, input_at, state_at, text_of, transaction_at};
+use marlowe_trace::{JsonFault, PutJson, RunFault, beside_dropped};
+use request_reasons::{
+    Definitions, Part, Refusal, contract_at, input_at, state_at, text_of, transaction_at,
+};
 use std::alloc::Global;
 
 // The compact text of a contract, a state, a transaction or an input, as it is read. Of several keys the first counts.

@@ -11,11 +11,11 @@ ghost use Rattle.serve.specs.StreamsSupport.{Adds, Going, Stopped, put_text};
 
 use crate::line_answers::{answer_too_long, answer_with};
 use crate::player::{NoPlayer, Player};
-use collections::Memory;
-use definitions::Definitions;
+use contract::Memory;
 use lines_in::{Lines, Step};
 use marlowe_io::{Sink, Source, Unwritable, emit};
 use marlowe_run::Readable;
+use request_reasons::Definitions;
 use std::alloc::Global;
 
 // How many bytes of answers wait at most before they are written.

@@ -1,5 +1,5 @@
-use Rattle.contract_json.proofs.InRange.{fitting}
-use Rattle.contract_json.proofs.Whole.{compact}
+use Rattle.marlowe_run.proofs.FromContractJson.InRange.{fitting}
+use Rattle.marlowe_run.proofs.FromContractJson.Whole.{compact}
 use Rattle.request_parts.proofs.text.text_of.Goals as goal
 
 pub returns : goal.returns

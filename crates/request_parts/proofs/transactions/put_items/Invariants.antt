@@ -1,6 +1,6 @@
 use Rattle.std.proofs.Common.{◌≡◌, ◌++◌, List, drop}
 use Rattle.contract.specs.declared.transaction.Transaction.{Transaction}
-use Rattle.json_read_names.specs.Parts.{Reading}
+use Rattle.marlowe_run.specs.JsonReadNames.Parts.{Reading}
 use Rattle.json_read_transactions.specs.ReadsTransactions.{item_readings}
 use Rattle.json_read_transactions.specs.TakingSupport.{going_on}
 use Rattle.json_tree.specs.View.{items_view}

@@ -1,8 +1,8 @@
 use Rattle.std.proofs.Common.{codes, refl}
 use Rattle.contract.specs.Tree.{contract_tree}
 use Rattle.json_tree.specs.View.{view}
-use Rattle.json_read_names.specs.Forms.{has}
-use Rattle.request_parts.specs.Parts.{state_at}
+use Rattle.marlowe_trace.specs.JsonReadNames.Forms.{has}
+use Rattle.request_reasons.specs.RequestParts.Parts.{state_at}
 use Rattle.serve.specs.Asking.{AnalysisPrints, telling_of}
 use Rattle.serve.proofs.AskingLemmas.{prints_so, tells_on}
 use Rattle.serve.proofs.analysing.analysis_of.Goals as goal

@@ -1,8 +1,8 @@
 use Rattle.contract.specs.Tree.{contract_tree}
 use Rattle.contract.specs.declared.tree.Contract.{Contract}
 use Rattle.json_tree.specs.View.{view}
-use Rattle.request_parts.specs.Given.{given_contract}
-use Rattle.request_parts.specs.Parts.{contract_at}
+use Rattle.request_reasons.specs.RequestParts.Given.{given_contract}
+use Rattle.request_reasons.specs.RequestParts.Parts.{contract_at}
 use Rattle.serve.specs.Asking.{TellsNextOf}
 use Rattle.serve.proofs.AskingLemmas.{tells_on}
 use Rattle.serve.proofs.asking.next.Goals as goal

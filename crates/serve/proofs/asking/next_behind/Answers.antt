@@ -1,8 +1,8 @@
 use Rattle.std.proofs.Common.{refl}
 use Rattle.contract.specs.Tree.{contract_tree}
 use Rattle.json_tree.specs.View.{view}
-use Rattle.marlowe_next.specs.declared.asked.Asked.{Asked}
-use Rattle.marlowe_next.specs.Question.{reached_by}
+use Rattle.request_reasons.specs.MarloweNext.declared.asked.Asked.{Asked}
+use Rattle.request_reasons.specs.MarloweNext.Question.{reached_by}
 use Rattle.serve.specs.Asking.{NextPrints, asked_at}
 use Rattle.serve.proofs.AskingLemmas.{tells_on}
 use Rattle.serve.proofs.asking.next_behind.Goals as goal

@@ -1,7 +1,7 @@
 use Rattle.std.proofs.Common.{codes}
 use Rattle.contract.specs.Tree.{contract_tree}
 use Rattle.json_tree.specs.View.{view}
-use Rattle.request_parts.specs.Parts.{transactions_at}
+use Rattle.request_reasons.specs.RequestParts.Parts.{transactions_at}
 use Rattle.serve.specs.Asking.{TellsNextBehind}
 use Rattle.serve.proofs.AskingLemmas.{tells_on}
 use Rattle.serve.proofs.asking.next_from.Goals as goal

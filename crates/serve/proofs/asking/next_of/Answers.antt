@@ -1,7 +1,7 @@
 use Rattle.std.proofs.Common.{refl}
 use Rattle.contract.specs.Tree.{contract_tree}
 use Rattle.json_tree.specs.View.{view}
-use Rattle.request_parts.specs.Parts.{state_at}
+use Rattle.request_reasons.specs.RequestParts.Parts.{state_at}
 use Rattle.serve.specs.Asking.{TellsNextFrom}
 use Rattle.serve.proofs.AskingLemmas.{tells_on}
 use Rattle.serve.proofs.asking.next_of.Goals as goal

@@ -1,5 +1,5 @@
 use Rattle.contract.specs.Tree.{contract_tree}
-use Rattle.marlowe_next.specs.Question.{reached_by}
+use Rattle.request_reasons.specs.MarloweNext.Question.{reached_by}
 use Rattle.serve.proofs.AskingLemmas.{next_prints, next_refused}
 use Rattle.serve.proofs.asking.next_told.Goals as goal
 

@@ -1,0 +1,5 @@
+mod ItemLemmas
+mod PartLemmas
+mod ReadingLemmas
+mod Worked
+pub mod FromRequestParts
