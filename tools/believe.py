@@ -13,14 +13,17 @@ types in its signature), or if a believed definition names it. So no lemma count
 Lines are those of the definition with its type, without comments, blank lines and imports.
 
 The calls of a crate are those that its lib.rt passes on, and the methods of the types and traits that it passes on; worked rows
-(`worked_..`) are none. Names are followed by their spelling, through the lines `use` and `ghost use`. Names that a definition binds itself
-(its arguments, `λ x.`, `(x : A)`, `x ←`, `let x`), fields and projections are no names of definitions.
+(`worked_..`) are none. Names are followed by their spelling, through the lines `use` and `ghost use`, and through the crates that pass
+them on (passed_on.py). Names that a definition binds itself (its arguments, `λ x.`, `(x : A)`, `x ←`, `let x`), fields and projections
+are no names of definitions.
 """
 
 import re
 import sys
 import textwrap
 from pathlib import Path
+
+from passed_on import at_home
 
 TOP = Path(__file__).resolve().parent.parent
 PAGE = TOP / "docs" / "BELIEVE.md"
@@ -173,7 +176,7 @@ class File:
     def is_maker(self, word):
         """Whether a word of a pattern is a constructor: other than definitions, these keep their meaning there."""
         module, name = self.scope.names.get(word, (None, None))
-        file = LIBRARY.files.get(module)
+        file = LIBRARY.files.get(module and at_home(module))
         if not module or not file:
             return module is not None
         return name in file.makers or file is not self and file.is_maker(name)
@@ -190,10 +193,7 @@ class Library:
 
     def find(self, module, name):
         """The definition of a name, also where a file passes it on from another."""
-        file = self.files.get(module)
-        if not file:  # a module that the crate's Lib passes on
-            lib = self.files[".".join(module.split(".")[:3] + ["Lib"])]
-            return self.find(lib.scope.modules[module.split(".")[-1]], name)
+        file = self.files[at_home(module)]
         if name in file.scope.passed_on:
             return self.find(*file.scope.passed_on[name])
         if name not in file.definitions and name not in file.makers:
@@ -309,6 +309,7 @@ class Beliefs:
 
     def meet(self, path, name):
         """A name of a module is met."""
+        path = at_home(path)
         parts = path.split(".")
         if len(parts) < 4 or parts[1] not in CRATES:
             self.kit.setdefault(path, set()).add(name)

@@ -5,23 +5,31 @@
     tools/unreached.py CRATE..      for these crates alone
 
 A definition or a lemma lives if a clause, a ghost item or a tactic of a `.rt` file names it, if a file that answers goals
-(`Answers`, `Invariants`, `Proof`) or the head of a block of definitions does, or if a living one does. It goes by names,
-so `rt check` is the judge of what may go.
+(`Answers`, `Invariants`, `Proof`) or the head of a block of definitions does, or if a living one does. What another crate passes
+on is looked for at home (passed_on.py). It goes by names, so `rt check` is the judge of what may go.
 """
 
 import re
 import sys
 from pathlib import Path
 
+from passed_on import at_home
+
 TOP = Path(__file__).resolve().parent.parent / "crates"
 USE = re.compile(r"Rattle\.(\w+)\.(specs|proofs)\.([\w.+/-]+?)(?:\.\{([^}]*)\}| as (\w+))")
-NAMED = re.compile(r"crate::proofs::(\w+)::([\w-]+)")
+NAMED = re.compile(r"\b(\w+)::(specs|proofs)::((?:\w+::)+)([\w-]+)")
 HEAD = re.compile(r"^(?:abbrev |unfoldable |opaque |data |record |pub )*([^\s:({]+)")
 TOKEN = re.compile(r"[^\s(){},;.:λ→×∷\[\]]+")
 OPENS = re.compile(r"^ *(?:module|(?:abbrev )?mutual)\b")
 ANSWERS = {"Answers", "Invariants", "Proof"}
 # words that stand where a name could, but begin none
 NO_NAMES = {")", "}", "]", "})", "unfolding", "use", "mod", "mutual", "where", "infixl", "infixr"}
+
+
+def origin(crate, kind, module):
+    """The crate, the folder and the module where a module is at home."""
+    _, crate, kind, *parts = at_home(f"Rattle.{crate}.{kind}.{module}").split(".")
+    return crate, kind, ".".join(parts)
 
 
 class File:
@@ -47,12 +55,13 @@ class File:
                 self.texts.setdefault(name, []).append(text)
 
     def add(self, found):
-        crate, kind, module, names, alias = found.groups()
+        *module, names, alias = found.groups()
+        module = origin(*module)
         if alias:
-            self.modules[alias] = (crate, kind, module)
+            self.modules[alias] = module
         for part in filter(None, (names or "").split(",")):
             name, _, new = part.strip().partition(" as ")
-            self.imports[new or name] = (crate, kind, module, name)
+            self.imports[new or name] = (*module, name)
 
     def named_by(self, text):
         """What a text of this file names: here, and in other files."""
@@ -79,9 +88,10 @@ def roots(all_files):
     found = set()
     for path in TOP.glob("*/src/**/*.rt"):
         text, crate = path.read_text(), path.relative_to(TOP).parts[0]
-        for crate_of, kind, module, names, _ in USE.findall(text):
-            found |= {(crate_of, kind, module, name.strip().split(" as ")[0]) for name in names.split(",")}
-        found |= {(crate, "proofs", *pair) for pair in NAMED.findall(text)}
+        for *module, names, _ in USE.findall(text):
+            found |= {(*origin(*module), name.strip().split(" as ")[0]) for name in names.split(",")}
+        for below, kind, module, name in NAMED.findall(text):
+            found.add((*origin(crate if below == "crate" else below, kind, module[:-2].replace("::", ".")), name))
     for key, file in all_files.items():
         found |= {name for text in file.blocks for name in file.named_by(text)}
         if key[2].split(".")[-1] in ANSWERS:

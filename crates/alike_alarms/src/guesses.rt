@@ -1,8 +1,7 @@
 //! Which alarm may be told for each.
 use crate::numbers::{Entry, entries_of};
 use crate::seen::Seen;
-use collections::Memory;
-use contract::Contract;
+use contract::{Contract, Memory};
 use std::alloc::Global;
 
 // How many parts are compared in all: more than there are in any text that is nested no deeper than 127.

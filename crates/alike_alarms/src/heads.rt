@@ -7,8 +7,7 @@ ghost use Rattle.alike_alarms.specs.AlikeSupport.{seen_of, AreCounts};
 use crate::guesses::guesses_of;
 use crate::seen::Seen;
 use crate::tellers::tellers_of;
-use collections::Memory;
-use contract::Contract;
+use contract::{Contract, Memory};
 use std::alloc::Global;
 
 /// Of each alarm, of those that stand in the order of a contract: how many others are told with it, or none where it is told

@@ -2,8 +2,7 @@
 //! promised of them: they tell which alarms are worth a comparison.
 use crate::seen::Seen;
 use analysis_spec::PathStep;
-use collections::{Boxed, Items, Memory};
-use contract::{Case, Contract};
+use contract::{Boxed, Case, Contract, Items, Memory};
 use std::alloc::Global;
 use std::hash::{DefaultHasher, Hash, Hasher};
 

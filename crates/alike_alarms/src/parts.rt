@@ -6,8 +6,7 @@ ghost use Rattle.alike_alarms.specs.AlikeSupport.{part_of};
 
 use analysis_spec::{Alarm, AlarmKind, PathStep};
 use analysis_walk::part_behind;
-use collections::Same;
-use contract::{Case, Contract};
+use contract::{Case, Contract, Same};
 
 /// What stands at a place.
 #[derive(Clone, Copy)]

@@ -6,8 +6,7 @@ ghost use Rattle.alike_alarms.specs.AlikeSupport.{seen_of, IsChosen, CanTell};
 
 use crate::parts::are_alike;
 use crate::seen::Seen;
-use collections::Memory;
-use contract::Contract;
+use contract::{Contract, Memory};
 use std::alloc::Global;
 
 /// Of each alarm the index of the one that is told for it: that of a guess where they are alike, else its own.

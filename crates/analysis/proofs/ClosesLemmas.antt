@@ -8,13 +8,13 @@ use Rattle.std.specs.List.{AllByRecursion}
 use Rattle.std.specs.Option.{unwrap_or}
 use Rattle.std.specs.Ordering.{eq_by_cmp}
 use Rattle.std.specs.FinMap.Entries.{find, put, find-put}
-use Rattle.names.specs.declared.account.Account.{Account}
-use Rattle.names.specs.declared.party.Party.{Party}
-use Rattle.names.specs.declared.token.Token.{Token}
-use Rattle.names.specs.Orders.{account_cmp}
-use Rattle.names.specs.Totals.{account_total}
-use Rattle.names.proofs.Exact.{account_exact}
-use Rattle.names.proofs.EqualLaws.{order_decides}
+use Rattle.contract.specs.Names.declared.account.Account.{Account}
+use Rattle.contract.specs.Names.declared.party.Party.{Party}
+use Rattle.contract.specs.Names.declared.token.Token.{Token}
+use Rattle.contract.specs.Names.Orders.{account_cmp}
+use Rattle.contract.specs.Names.Totals.{account_total}
+use Rattle.contract.proofs.FromNames.Exact.{account_exact}
+use Rattle.contract.proofs.FromNames.EqualLaws.{order_decides}
 use Rattle.semantics.specs.Reduction.{account_of}
 use Rattle.linear.specs.Linear.{Linear, number_at, number}
 use Rattle.linear.specs.Bounded.{IsFromAll, IsUpToAll}

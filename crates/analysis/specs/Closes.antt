@@ -2,8 +2,8 @@
 use Rattle.std.specs.Prelude.{◌≡◌, true, is_some, List, [], ◌∷◌, IfSome}
 use Rattle.std.specs.List.{AllByRecursion}
 use Rattle.std.specs.FinMap.Entries.{find}
-use Rattle.names.specs.declared.account.Account.{Account}
-use Rattle.names.specs.Orders.{account_cmp}
+use Rattle.contract.specs.Names.declared.account.Account.{Account}
+use Rattle.contract.specs.Names.Orders.{account_cmp}
 use Rattle.analysis_walk.specs.Conclusions.{ClosesIn}
 use Rattle.analysis_values.specs.Known.{Known, IsDescribed}
 use Rattle.analysis_walk.specs.declared.span.Span.{Span}

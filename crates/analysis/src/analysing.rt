@@ -5,9 +5,7 @@ ghost use Rattle.analysis_spec.specs.Analysed.{NamesWhatComes, NamesWhereItComes
 
 use crate::knowing::Expressions;
 use analysis_walk::{Analysis, analyse_by};
-use collections::Memory;
-use contract::Contract;
-use states::State;
+use contract::{Contract, Memory, State};
 use std::alloc::Global;
 
 /// What a contract can warn of, with places, what it can pay, and what of it no run reaches, in whatever runs from a state. A kind of warning never

@@ -1,7 +1,7 @@
 //! What parties are paid where a contract is closed.
 ghost use Rattle.std.specs.Prelude.{◌≡◌, is_some, IfOk, OnOk};
 ghost use Rattle.std.specs.FinMap.Entries.{find};
-ghost use Rattle.names.specs.Orders.{account_cmp};
+ghost use Rattle.contract.specs.Names.Orders.{account_cmp};
 ghost use Rattle.analysis_values.specs.Known.{IsDescribed};
 ghost use Rattle.analysis_walk.specs.Knowledge.{ClosesBy};
 ghost use Rattle.analysis.specs.Closes.{ArePaid, NamesAll, Puts};
@@ -9,8 +9,7 @@ ghost use Rattle.analysis.specs.Closes.{ArePaid, NamesAll, Puts};
 use analysis_steps::close;
 use analysis_values::Known;
 use analysis_walk::Span;
-use collections::{Entries, Memory};
-use names::Account;
+use contract::{Account, Entries, Memory};
 use std::alloc::Global;
 
 /// What parties are paid in all, where the contract is closed here. Who isn't named is paid nothing.

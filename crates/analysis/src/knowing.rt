@@ -5,10 +5,10 @@ use crate::closes::spans;
 use analysis_steps as steps;
 use analysis_values::Known;
 use analysis_walk::{Branches, Conclusion, Knowledge, Span};
-use collections::{Entries, Items, Memory, Text};
-use contract::{Case, Observation, Value};
-use names::{Account, Bound, ChoiceId, Party, Payee, Token};
-use states::State;
+use contract::{
+    Account, Bound, Case, ChoiceId, Entries, Items, Memory, Observation, Party, Payee, State, Text,
+    Token, Value,
+};
 use std::alloc::Global;
 
 /// Runs are known by linear expressions: for accounts, choices, bound values, times and what was paid.

@@ -4,10 +4,10 @@ use Rattle.std.specs.Fmt.{decimal, signed_decimal}
 use Rattle.std.specs.Ordering.{int_eq}
 use Rattle.serde_json.specs.Written.{compact_text}
 use Rattle.contract.specs.declared.transaction.Transaction.{Transaction}
-use Rattle.names.specs.declared.party.Party.{Party}
-use Rattle.names.specs.declared.token.Token.{Token}
+use Rattle.contract.specs.Names.declared.party.Party.{Party}
+use Rattle.contract.specs.Names.declared.token.Token.{Token}
 use Rattle.contract.specs.Tree.{ContractTree}
-use Rattle.states.specs.States.{StateMaps}
+use Rattle.contract.specs.States.States.{StateMaps}
 use Rattle.json_write_contracts.specs.WrittenNames.{party_json, token_json}
 use Rattle.contract_json.specs.WrittenInput.{transaction_json}
 use Rattle.bound_runs.specs.declared.shown.ShownRange.{ShownRange}

@@ -7,7 +7,7 @@ use Rattle.contract.specs.declared.transaction.Transaction.{Transaction}
 use Rattle.json_write_contracts.specs.WrittenNames.{two, three, four, five, six, wide_json, party_json, token_json}
 use Rattle.contract_json.specs.WrittenInput.{transaction_json}
 use Rattle.contract.specs.Tree.{ContractTree}
-use Rattle.states.specs.States.{StateMaps}
+use Rattle.contract.specs.States.States.{StateMaps}
 use Rattle.contract_notes.specs.Notes.{notes_of}
 use Rattle.contract_notes.specs.Parties.{parties_named, once_of}
 use Rattle.note_lines.specs.NoteLines.{notes_json}

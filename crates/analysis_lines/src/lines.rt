@@ -7,8 +7,7 @@ ghost use Rattle.analysis_lines.specs.Lines.{transaction_line, run_lines, whole_
 
 use crate::told::ToldAlarm;
 use bound_runs::{ShownLoss, ShownRange};
-use collections::{Items, Memory};
-use contract::Transaction;
+use contract::{Items, Memory, Transaction};
 use contract_json::{PutJson, WriteFault};
 use json::Writer;
 use json_write_contracts::term_text;

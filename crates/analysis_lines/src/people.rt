@@ -8,8 +8,7 @@ ghost use Rattle.analysis_lines.specs.Lines.{reached_lines, noted_lines, told_li
 use crate::lines::{put_alarms, put_losses, put_out, put_ranges, put_start, put_unreached};
 use crate::reached::put_reached;
 use crate::told::Told;
-use collections::Memory;
-use contract::{Contract, State};
+use contract::{Contract, Memory, State};
 use contract_notes::{named_once, notes_of};
 use note_lines::put_note_lines;
 use std::alloc::Global;

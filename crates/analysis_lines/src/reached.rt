@@ -5,10 +5,8 @@ ghost use Rattle.analysis_lines.specs.Lines.{run_lines, holder_text, bound_lines
 
 use crate::lines::{bounds_text, loss_text, put_bytes, put_run};
 use bound_runs::{ShownLoss, ShownRange};
-use collections::{Items, Memory};
-use contract::Transaction;
+use contract::{Items, Memory, Party, Token, Transaction};
 use json_write_contracts::term_text;
-use names::{Party, Token};
 use std::alloc::Global;
 
 /// For each bound that a run reaches the bound once more, and the run.

@@ -1,8 +1,7 @@
 //! What is told of a contract.
 use analysis_spec::Alarm;
 use bound_runs::{ShownLoss, ShownRange};
-use collections::Items;
-use contract::Transaction;
+use contract::{Items, Transaction};
 use places::Key;
 
 /// An alarm, the way to its place in the text, and a run that ends in it: none where that is not known. And how many others are told

@@ -12,8 +12,7 @@ ghost use Rattle.bound_runs.specs.Told.{HasNumbers, RangeHasNumbers, LossHasNumb
 
 use crate::told::{Told, ToldAlarm};
 use bound_runs::{ShownLoss, ShownRange};
-use collections::{Items, Memory};
-use contract::{Contract, State, Transaction};
+use contract::{Contract, Items, Memory, State, Transaction};
 use contract_json::{PutJson, WriteFault};
 use contract_notes::{named_once, notes_of};
 use json::Writer;

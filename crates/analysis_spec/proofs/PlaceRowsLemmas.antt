@@ -3,16 +3,16 @@ use Rattle.std.proofs.Common.{◌≡◌, ◌≢◌, ℤ, pos, true, false, List,
 use Rattle.std.specs.List.{AllByRecursion}
 use Rattle.std.specs.Option.{unwrap_or}
 use Rattle.std.specs.FinMap.{get, insert, empty, get-empty, get-insert, get-from_sorted}
-use Rattle.names.specs.declared.payee.Payee.TheVariants.{Party as ToParty}
-use Rattle.names.specs.Equal.{ada}
-use Rattle.names.specs.Orders.{account_cmp, bytes_cmp}
-use Rattle.names.specs.Totals.{account_total, bytes_total}
+use Rattle.contract.specs.Names.declared.payee.Payee.TheVariants.{Party as ToParty}
+use Rattle.contract.specs.Names.Equal.{ada}
+use Rattle.contract.specs.Names.Orders.{account_cmp, bytes_cmp}
+use Rattle.contract.specs.Names.Totals.{account_total, bytes_total}
 use Rattle.contract.specs.declared.input.Input.TheVariants.{Deposit, Notify}
 use Rattle.contract.specs.declared.warning.Warning.TheVariants as warnings
 use Rattle.contract.specs.Tree.{not_obs, close}
-use Rattle.states.specs.States.{with_money}
-use Rattle.evaluation.specs.Evaluation.{looked}
-use Rattle.evaluation.specs.Numbers.{fits, all_fit}
+use Rattle.contract.specs.States.States.{with_money}
+use Rattle.semantics.specs.Evaluation.Evaluation.{looked}
+use Rattle.semantics.specs.Evaluation.Numbers.{fits, all_fit}
 use Rattle.semantics.specs.Walk.{Turn, standing}
 use Rattle.semantics.specs.Reduction.{account_of, balance}
 use Rattle.semantics.specs.Computed.{applied, one_input, from_start, computed}

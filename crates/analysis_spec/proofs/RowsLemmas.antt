@@ -5,16 +5,16 @@ use Rattle.std.specs.List.{AllByRecursion}
 use Rattle.std.specs.Option.{unwrap_or}
 use Rattle.std.specs.Result.{result_unwrap_or}
 use Rattle.std.specs.FinMap.{empty, entries, get-empty, len-empty, len-entries}
-use Rattle.names.specs.declared.account.Account.{Account}
-use Rattle.names.specs.declared.payee.Payee.TheVariants.{Party as ToParty}
-use Rattle.names.specs.Equal.{ada}
-use Rattle.names.specs.Orders.{account_cmp}
+use Rattle.contract.specs.Names.declared.account.Account.{Account}
+use Rattle.contract.specs.Names.declared.payee.Payee.TheVariants.{Party as ToParty}
+use Rattle.contract.specs.Names.Equal.{ada}
+use Rattle.contract.specs.Names.Orders.{account_cmp}
 use Rattle.contract.specs.declared.transaction.Transaction.{Transaction}
 use Rattle.contract.specs.declared.warning.Warning.{Warning}
 use Rattle.contract.specs.declared.warning.Warning.TheVariants as warnings
 use Rattle.contract.specs.Tree.{ContractTree, close}
-use Rattle.states.specs.States.{StateMaps}
-use Rattle.evaluation.specs.Numbers.{fits}
+use Rattle.contract.specs.States.States.{StateMaps}
+use Rattle.semantics.specs.Evaluation.Numbers.{fits}
 use Rattle.semantics.specs.Walk.{Standing, standing}
 use Rattle.semantics.specs.Reduction.{account_of, balance}
 use Rattle.semantics.specs.Closing.{IsSpent}

@@ -1,10 +1,10 @@
 -- What an analysis says of a contract and the state in which it starts, in the promises' words.
 use Rattle.std.specs.Prelude.{◌≡◌, ◌≢◌, pos, List, Some}
 use Rattle.std.specs.List.{AllByRecursion}
-use Rattle.names.specs.declared.party.Party.{Party}
-use Rattle.names.specs.declared.token.Token.{Token}
+use Rattle.contract.specs.Names.declared.party.Party.{Party}
+use Rattle.contract.specs.Names.declared.token.Token.{Token}
 use Rattle.contract.specs.Tree.{ContractTree}
-use Rattle.states.specs.States.{StateMaps}
+use Rattle.contract.specs.States.States.{StateMaps}
 use Rattle.analysis_spec.specs.declared.kind.AlarmKind.{AlarmKind}
 use Rattle.analysis_spec.specs.declared.kind.AlarmKind.TheVariants.{Leaves128}
 use Rattle.analysis_spec.specs.declared.path.PathStep.{PathStep}

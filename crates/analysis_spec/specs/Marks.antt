@@ -6,9 +6,9 @@ use Rattle.contract.specs.declared.interval.Interval.{Interval}
 use Rattle.contract.specs.declared.transaction.Transaction.{Transaction}
 use Rattle.contract.specs.declared.warning.Warning.{Warning}
 use Rattle.contract.specs.Tree.{ActionTree, ContractTree, close, pay, if_obs, when, let_be, assert}
-use Rattle.states.specs.States.{StateMaps}
-use Rattle.evaluation.specs.Evaluation.{eval, visited, holds, looked}
-use Rattle.evaluation.specs.Path.{waits_for}
+use Rattle.contract.specs.States.States.{StateMaps}
+use Rattle.semantics.specs.Evaluation.Evaluation.{eval, visited, holds, looked}
+use Rattle.semantics.specs.Evaluation.Path.{waits_for}
 use Rattle.semantics.specs.Walk.{Turn, refund, next, then_branch, else_branch, timed_out, in_case, Standing, answer_of}
 use Rattle.semantics.specs.Reduction.{binding, asserting}
 use Rattle.semantics.specs.Applying.{matches, tried, taken_numbers, taken_warnings}

@@ -1,15 +1,15 @@
 -- What is promised of a contract and the state in which it starts. Each promise speaks of all runs from there.
 use Rattle.std.specs.Prelude.{◌≡◌, ◌≢◌, ℤ, pos, neg_ℤ, ◌^◌, ◌≤ℤ◌, ◌<ℤ◌, true, false, Option, IfSome, Err, List, [], ◌∷◌, ◌⊎◌}
 use Rattle.std.specs.List.{AllByRecursion}
-use Rattle.names.specs.declared.party.Party.{Party}
-use Rattle.names.specs.declared.token.Token.{Token}
+use Rattle.contract.specs.Names.declared.party.Party.{Party}
+use Rattle.contract.specs.Names.declared.token.Token.{Token}
 use Rattle.contract.specs.declared.fault.SemFault.TheVariants as faults
 use Rattle.contract.specs.declared.transaction.Transaction.{Transaction}
 use Rattle.contract.specs.declared.warning.Warning.{Warning}
 use Rattle.contract.specs.declared.warning.Warning.TheVariants as warnings
 use Rattle.contract.specs.Tree.{ContractTree}
-use Rattle.states.specs.States.{StateMaps}
-use Rattle.evaluation.specs.Numbers.{all_fit}
+use Rattle.contract.specs.States.States.{StateMaps}
+use Rattle.semantics.specs.Evaluation.Numbers.{all_fit}
 use Rattle.semantics.specs.Walk.{standing, answer_of}
 use Rattle.semantics.specs.Closing.{IsSpent}
 use Rattle.analysis_spec.specs.declared.kind.AlarmKind.{AlarmKind}

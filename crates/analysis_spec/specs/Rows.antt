@@ -1,12 +1,12 @@
 -- Worked promises: each can be broken, and runs that break it.
 use Rattle.std.specs.Prelude.{◌≡◌, ℤ, pos, neg_ℤ, List, [], ◌∷◌, Some, None}
-use Rattle.names.specs.declared.payee.Payee.TheVariants.{Party as ToParty}
-use Rattle.names.specs.Equal.{ada}
+use Rattle.contract.specs.Names.declared.payee.Payee.TheVariants.{Party as ToParty}
+use Rattle.contract.specs.Names.Equal.{ada}
 use Rattle.contract.specs.declared.input.Input.{Input}
 use Rattle.contract.specs.declared.transaction.Transaction.{Transaction}
 use Rattle.contract.specs.declared.input.Input.TheVariants.{Deposit, Notify}
 use Rattle.contract.specs.Tree.{constant, div_value, and_obs, not_obs, true_obs, false_obs, deposit, notify, ContractTree, close, pay, when, let_be, assert, no_cases, case_then}
-use Rattle.evaluation.specs.EvaluationRows.{least}
+use Rattle.semantics.specs.Evaluation.EvaluationRows.{least}
 use Rattle.semantics.specs.Walk.{standing}
 use Rattle.semantics.specs.Rows.{interval, party_a, party_b, name_x, nothing, a_has_three, is_large, pays_b}
 use Rattle.analysis_spec.specs.declared.kind.AlarmKind.TheVariants.{NonPositiveDeposit, NonPositivePay, PartialPay, Shadowing, AssertionFailed, Leaves128}

@@ -1,16 +1,16 @@
 -- Runs: transactions on a contract, one after another.
 use Rattle.std.specs.Prelude.{ℤ, pos, cond, Result, Ok, Err, List, [], ◌∷◌, ◌++◌}
 use Rattle.std.specs.Result.{result_unwrap_or}
-use Rattle.collections.specs.Total.{total}
-use Rattle.names.specs.declared.party.Party.{Party}
-use Rattle.names.specs.declared.payee.Payee.{Payee}
-use Rattle.names.specs.declared.payee.Payee.TheVariants.{Account as ToAccount, Party as ToParty}
-use Rattle.names.specs.declared.token.Token.{Token}
-use Rattle.names.specs.Equal.{same_party}
+use Rattle.contract.specs.Collections.Total.{total}
+use Rattle.contract.specs.Names.declared.party.Party.{Party}
+use Rattle.contract.specs.Names.declared.payee.Payee.{Payee}
+use Rattle.contract.specs.Names.declared.payee.Payee.TheVariants.{Account as ToAccount, Party as ToParty}
+use Rattle.contract.specs.Names.declared.token.Token.{Token}
+use Rattle.contract.specs.Names.Equal.{same_party}
 use Rattle.contract.specs.declared.fault.SemFault.{SemFault}
 use Rattle.contract.specs.declared.payment.Payment.{Payment}
 use Rattle.contract.specs.declared.transaction.Transaction.{Transaction}
-use Rattle.states.specs.States.{counted}
+use Rattle.contract.specs.States.States.{counted}
 use Rattle.semantics.specs.Walk.{Standing, Walk, answer_of}
 use Rattle.semantics.specs.Computed.{computed}
 

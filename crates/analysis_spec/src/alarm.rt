@@ -1,7 +1,7 @@
 //! Alarms.
 use crate::kind::AlarmKind;
 use crate::path::PathStep;
-use collections::Items;
+use contract::Items;
 
 /// Something may go wrong at a place of a contract.
 #[derive(Debug, Drop)]

@@ -1,5 +1,5 @@
 //! What parties are paid.
-use names::{Party, Token};
+use contract::{Party, Token};
 
 /// How much of a token, in its smallest unit, a party is paid by a contract: at least `least` once it is closed,
 /// and never more than `most`. A bound that is none isn't known.

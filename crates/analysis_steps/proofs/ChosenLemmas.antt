@@ -11,17 +11,17 @@ use Rattle.std.specs.FinMap.Entries.{find}
 use Rattle.std.specs.FinMap.{get, insert, get-insert}
 use Rattle.claims.specs.declared.claim.Claim.{Claim}
 use Rattle.claims.specs.Claims.{takes, owner, IsLane}
-use Rattle.names.specs.declared.bound.Bound.{Bound}
-use Rattle.names.specs.Equal.{same_choice_id}
-use Rattle.names.specs.declared.choice_id.ChoiceId.{ChoiceId}
-use Rattle.names.specs.Orders.{choice_id_cmp}
-use Rattle.names.specs.Totals.{choice_id_total}
+use Rattle.contract.specs.Names.declared.bound.Bound.{Bound}
+use Rattle.contract.specs.Names.Equal.{same_choice_id}
+use Rattle.contract.specs.Names.declared.choice_id.ChoiceId.{ChoiceId}
+use Rattle.contract.specs.Names.Orders.{choice_id_cmp}
+use Rattle.contract.specs.Names.Totals.{choice_id_total}
 use Rattle.contract.specs.declared.input.Input.TheVariants.{Choice}
 use Rattle.contract.specs.declared.interval.Interval.{Interval}
 use Rattle.contract.specs.declared.payment.Payment.{Payment}
 use Rattle.contract.specs.declared.tree.Case.{Case}
 use Rattle.contract.specs.Tree.{ActionTree, action_tree}
-use Rattle.states.specs.States.{StateMaps}
+use Rattle.contract.specs.States.States.{StateMaps}
 use Rattle.semantics.specs.Applying.{in_bound, matches}
 use Rattle.linear.specs.Linear.{Linear, Valuation, number_at}
 use Rattle.symbols.specs.Held.{GivesAny}

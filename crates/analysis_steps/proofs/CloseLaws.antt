@@ -1,10 +1,10 @@
 -- What parties are paid in the end.
 use Rattle.std.proofs.Common.{◌≡◌, ℤ, ◌+ℤ◌, ◌≤ℤ◌, List, [], ◌∷◌, ◌++◌, sym, ap, ◌∙◌, subst, Option, Some, None, IfSome}
-use Rattle.names.specs.declared.party.Party.{Party}
-use Rattle.names.specs.declared.token.Token.{Token}
+use Rattle.contract.specs.Names.declared.party.Party.{Party}
+use Rattle.contract.specs.Names.declared.token.Token.{Token}
 use Rattle.contract.specs.declared.interval.Interval.{Interval}
 use Rattle.contract.specs.declared.payment.Payment.{Payment}
-use Rattle.states.specs.States.{StateMaps, counted}
+use Rattle.contract.specs.States.States.{StateMaps, counted}
 use Rattle.semantics.specs.Reduction.{account_of}
 use Rattle.semantics.specs.Computed.{refunds}
 use Rattle.linear.specs.Linear.{Linear, number_at, IsFrom, IsUpTo}

@@ -8,21 +8,21 @@ use Rattle.std.specs.Option.{is_none, IsSomeAnd}
 use Rattle.std.specs.Ordering.{eq_by_cmp}
 use Rattle.std.specs.FinMap.Entries.{find}
 use Rattle.std.specs.FinMap.{get, get-insert}
-use Rattle.names.specs.declared.account.Account.{Account}
-use Rattle.names.specs.declared.party.Party.{Party}
-use Rattle.names.specs.declared.payee.Payee.{Payee}
-use Rattle.names.specs.declared.payee.Payee.TheVariants.{Account as ToAccount, Party as ToParty}
-use Rattle.names.specs.declared.token.Token.{Token}
-use Rattle.names.specs.Orders.{account_cmp, bytes_cmp}
-use Rattle.names.specs.Totals.{bytes_total}
+use Rattle.contract.specs.Names.declared.account.Account.{Account}
+use Rattle.contract.specs.Names.declared.party.Party.{Party}
+use Rattle.contract.specs.Names.declared.payee.Payee.{Payee}
+use Rattle.contract.specs.Names.declared.payee.Payee.TheVariants.{Account as ToAccount, Party as ToParty}
+use Rattle.contract.specs.Names.declared.token.Token.{Token}
+use Rattle.contract.specs.Names.Orders.{account_cmp, bytes_cmp}
+use Rattle.contract.specs.Names.Totals.{bytes_total}
 use Rattle.contract.specs.declared.input.Input.TheVariants.{Deposit}
 use Rattle.contract.specs.declared.interval.Interval.{Interval}
 use Rattle.contract.specs.declared.payment.Payment.{Payment}
 use Rattle.contract.specs.declared.warning.Warning.TheVariants as warnings
 use Rattle.contract.specs.Tree.{ValueTree, available_money, constant, neg_value, add_value, sub_value, mul_value, div_value, choice_value, time_interval_start, time_interval_end, use_value, cond_value, ObservationTree, ContractTree}
-use Rattle.states.specs.States.{StateMaps, money_of, with_money}
-use Rattle.states.proofs.Accounts.{money_of-with_money}
-use Rattle.evaluation.specs.Evaluation.{eval, visited, holds, looked}
+use Rattle.contract.specs.States.States.{StateMaps, money_of, with_money}
+use Rattle.contract.proofs.FromStates.Accounts.{money_of-with_money}
+use Rattle.semantics.specs.Evaluation.Evaluation.{eval, visited, holds, looked}
 use Rattle.semantics.specs.Reduction.{Reduction, account_of, balance, debited, credited, account_sums, paying, not_paying, partial_pay, binding, asserting, with_bound, shadowing}
 use Rattle.semantics.specs.Applying.{taken, taken_numbers, taken_warnings}
 use Rattle.semantics.specs.Computed.{pay_step}

@@ -10,10 +10,10 @@ use Rattle.std.specs.Ordering.{eq_by_cmp}
 use Rattle.std.specs.declared.cmp.Ordering.{Ordering}
 use Rattle.std.specs.FinMap.Entries.{find}
 use Rattle.std.specs.FinMap.{get, entries, get-entries}
-use Rattle.collections.proofs.Positive.{AllPositive-find}
-use Rattle.names.specs.Orders.{account_cmp, choice_id_cmp, bytes_cmp}
-use Rattle.states.specs.States.{StateMaps, AllPositive}
-use Rattle.evaluation.specs.Numbers.{fits}
+use Rattle.contract.proofs.FromCollections.Positive.{AllPositive-find}
+use Rattle.contract.specs.Names.Orders.{account_cmp, choice_id_cmp, bytes_cmp}
+use Rattle.contract.specs.States.States.{StateMaps, AllPositive}
+use Rattle.semantics.specs.Evaluation.Numbers.{fits}
 use Rattle.linear.specs.Linear.{Valuation, number_at, number}
 use Rattle.symbols.specs.Held.{symbols_of}
 use Rattle.analysis_walk.specs.Limits.{Scope, any_runs, written_runs, Allowed}

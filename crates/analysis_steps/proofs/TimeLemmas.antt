@@ -4,7 +4,7 @@ use Rattle.std.proofs.lemmas.Int.{ints}
 use Rattle.std.specs.Option.{IsSomeAnd}
 use Rattle.contract.specs.declared.interval.Interval.{Interval}
 use Rattle.contract.specs.declared.payment.Payment.{Payment}
-use Rattle.states.specs.States.{StateMaps}
+use Rattle.contract.specs.States.States.{StateMaps}
 use Rattle.linear.specs.Linear.{Linear, number_at, IsBelow, number}
 use Rattle.linear.specs.Combined.{StandsFor, AreBelow}
 use Rattle.symbols.specs.Symbols.{Symbols}

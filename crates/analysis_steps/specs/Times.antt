@@ -2,7 +2,7 @@
 use Rattle.std.specs.Prelude.{◌≡◌, ◌≤◌, ℤ, ◌≤ℤ◌, Bool, true, List}
 use Rattle.contract.specs.declared.interval.Interval.{Interval}
 use Rattle.contract.specs.declared.payment.Payment.{Payment}
-use Rattle.states.specs.States.{StateMaps}
+use Rattle.contract.specs.States.States.{StateMaps}
 use Rattle.linear.specs.Linear.{Linear, Valuation, number_at, IsBelow, Agree}
 use Rattle.symbols.specs.Symbols.{Symbols, IsValued, IsClosed, Knows}
 use Rattle.analysis_walk.specs.Limits.{Scope}

@@ -3,7 +3,7 @@ ghost use Rattle.std.specs.Prelude.{◌≡◌, ◌++◌, ◌&&◌, OnOk};
 ghost use Rattle.analysis_values.specs.Answered.{unless};
 
 use analysis_spec::AlarmKind;
-use collections::{Items, Memory};
+use contract::{Items, Memory};
 
 // An alarm, unless it is shown not to come.
 pub(crate) fn put_unless(

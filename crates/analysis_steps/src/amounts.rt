@@ -8,7 +8,7 @@ ghost use Rattle.symbols.specs.Cases.{IsNatural};
 ghost use Rattle.analysis_steps.specs.Amounts.{IsAbove, IsNothing, LearnsIf, HasAllDue, GivesPaid, GivesAdded, GivesSum, GivesRest, IsFromSum, IsUpToSum};
 
 use analysis_values::Known;
-use collections::{Memory, TryClone};
+use contract::{Memory, TryClone};
 use linear::Linear;
 
 // Whether an expression is shown to be above 0.

@@ -8,8 +8,7 @@ use crate::alarms::put_unless;
 use analysis_spec::AlarmKind;
 use analysis_values::{Known, Observed, observe};
 use analysis_walk::Branches;
-use collections::{Items, Memory};
-use contract::Observation;
+use contract::{Items, Memory, Observation};
 use std::alloc::Global;
 
 /// An observation, as an If or a Notify looks at it: an alarm that a number leaves 128 bits, unless its numbers are shown

@@ -2,7 +2,7 @@
 ghost use Rattle.std.specs.Prelude.{◌≡◌, ℤ, ◌≤ℤ◌, true, false, ◌&&◌, ◌++◌, All, ◌⊎◌, IfOk, OnOk};
 ghost use Rattle.std.specs.Int.{int_min, int_max};
 ghost use Rattle.std.specs.List.{list_any};
-ghost use Rattle.names.specs.Equal.{same_choice_id};
+ghost use Rattle.contract.specs.Names.Equal.{same_choice_id};
 ghost use Rattle.semantics.specs.Applying.{in_bound};
 ghost use Rattle.analysis_walk.specs.Conclusions.{ChoosesSo};
 ghost use Rattle.analysis_walk.specs.Knowledge.{actions_before};
@@ -12,9 +12,7 @@ ghost use Rattle.analysis_steps.specs.Chosen.{IsFromTo, IsWithin, IsHull, IsHull
 use analysis_values::Known;
 use analysis_walk::Conclusion;
 use claims::{Claim, first_come};
-use collections::{Items, Memory, Same};
-use contract::{Action, Case};
-use names::{Bound, ChoiceId};
+use contract::{Action, Bound, Case, ChoiceId, Items, Memory, Same};
 use std::alloc::Global;
 
 /// The most earlier cases that `choose`, `deposit` and `notify` look at: the last 64. An input that an older case takes is

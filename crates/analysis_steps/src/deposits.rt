@@ -13,9 +13,7 @@ use crate::moved::grow;
 use analysis_spec::AlarmKind;
 use analysis_values::{Known, evaluate};
 use analysis_walk::Conclusion;
-use collections::{Items, Memory};
-use contract::{Case, Value};
-use names::{Party, Token};
+use contract::{Case, Items, Memory, Party, Token, Value};
 use std::alloc::Global;
 
 // What may go wrong where a deposit's case is only tried, as where an earlier case takes each such deposit: a number of the

@@ -10,9 +10,7 @@ use crate::amounts::is_at_least;
 use crate::choices::last_of;
 use crate::reductions::is_impossible;
 use analysis_values::{Known, Observed, evaluate, observe};
-use collections::{Memory, Same, TryClone};
-use contract::{Action, Case, Observation, Value};
-use names::{Party, Token};
+use contract::{Action, Case, Memory, Observation, Party, Same, Token, TryClone, Value};
 
 // Whether two values are shown to have one number.
 fn equal(known: &Known, one: &Value, other: &Value) -> Result<bool, Memory>

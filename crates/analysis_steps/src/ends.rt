@@ -8,9 +8,8 @@ ghost use Rattle.analysis_steps.specs.Amounts.{SumIsFrom, SumIsUpTo};
 use crate::amounts::sum_of_bounds;
 use analysis_values::Known;
 use analysis_walk::Span;
-use collections::Memory;
+use contract::{Account, Memory};
 use linear::{Bounds, Linear};
-use names::Account;
 
 // Bounds of the sum of two expressions.
 fn bounds_of_sum(known: &Known, l: &Linear, m: &Linear) -> Result<Bounds, Memory>

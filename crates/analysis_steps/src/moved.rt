@@ -1,6 +1,6 @@
 //! Amounts that move between accounts and parties.
 ghost use Rattle.std.specs.Prelude.{◌≡◌, true, IfOk, OnOk};
-ghost use Rattle.names.specs.declared.payee.Payee.TheVariants.{Account as ToAccount, Party as ToParty};
+ghost use Rattle.contract.specs.Names.declared.payee.Payee.TheVariants.{Account as ToAccount, Party as ToParty};
 ghost use Rattle.semantics.specs.Reduction.{account_of};
 ghost use Rattle.analysis_values.specs.Known.{held};
 ghost use Rattle.analysis_steps.specs.Amounts.{HasAllDue};
@@ -8,9 +8,8 @@ ghost use Rattle.analysis_steps.specs.Moved.{Debits, Grows, PaysOut, Moves, Tran
 
 use crate::amounts::{paid, rest, sum};
 use analysis_values::Known;
-use collections::Memory;
+use contract::{Memory, Party, Payee, Token};
 use linear::Linear;
-use names::{Party, Payee, Token};
 
 // The account of a party gives an amount.
 fn debit(known: &mut Known, owner: &Party, token: &Token, amount: &Linear) -> Result<(), Memory>

@@ -11,8 +11,7 @@ use crate::earlier::is_notify_taken;
 use crate::reductions::is_impossible;
 use analysis_values::Known;
 use analysis_walk::{Branches, Conclusion};
-use collections::Memory;
-use contract::{Case, Observation};
+use contract::{Case, Memory, Observation};
 use std::alloc::Global;
 
 // Whether an earlier case is shown to take each notification; where none can come that isn't asked.

@@ -11,9 +11,7 @@ use crate::moved::transfer;
 use analysis_spec::AlarmKind;
 use analysis_values::{Known, Observed, either, evaluate, observe};
 use analysis_walk::Conclusion;
-use collections::{Items, Memory, Text};
-use contract::{Observation, Value};
-use names::{Party, Payee, Token};
+use contract::{Items, Memory, Observation, Party, Payee, Text, Token, Value};
 use std::alloc::Global;
 
 /// A Pay of a value from the account of a party (Marlowe specification version 3, "Pay"). An alarm that 0 or less is

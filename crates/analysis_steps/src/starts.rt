@@ -1,6 +1,6 @@
 //! The start.
 ghost use Rattle.std.specs.Prelude.{◌≡◌, true, IfOk};
-ghost use Rattle.evaluation.specs.Numbers.{fits};
+ghost use Rattle.semantics.specs.Evaluation.Numbers.{fits};
 ghost use Rattle.linear.specs.Linear.{number};
 ghost use Rattle.analysis_values.specs.Entries.{EntriesFit};
 ghost use Rattle.analysis_walk.specs.Limits.{Scope};
@@ -9,9 +9,8 @@ ghost use Rattle.analysis_values.specs.Known.{IsDescribed};
 
 use crate::times::later;
 use analysis_values::Known;
-use collections::Memory;
+use contract::{Memory, State};
 use linear::Linear;
-use states::State;
 use std::alloc::Global;
 use symbols::Symbols;
 

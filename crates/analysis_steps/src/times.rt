@@ -7,7 +7,7 @@ ghost use Rattle.analysis_steps.specs.Times.{FindsTime, AssumesMost};
 
 use crate::amounts::learn_if;
 use analysis_values::Known;
-use collections::{Memory, TryClone};
+use contract::{Memory, TryClone};
 use linear::Linear;
 use std::alloc::Global;
 

@@ -6,24 +6,24 @@ use Rattle.std.specs.Option.{unwrap_or}
 use Rattle.std.specs.Ordering.{eq_by_cmp}
 use Rattle.std.specs.FinMap.Entries.{find}
 use Rattle.std.specs.FinMap.{get, entries, remove}
-use Rattle.collections.specs.Total.{total}
-use Rattle.collections.proofs.Total.{by, total-remove, entries-remove}
-use Rattle.collections.specs.Keys.{without}
-use Rattle.names.specs.declared.account.Account.{Account}
-use Rattle.names.specs.declared.party.Party.{Party}
-use Rattle.names.specs.declared.payee.Payee.{Payee}
-use Rattle.names.specs.declared.payee.Payee.TheVariants.{Account as ToAccount, Party as ToParty}
-use Rattle.names.specs.declared.token.Token.{Token}
-use Rattle.names.specs.Equal.{same_party, same_token}
-use Rattle.names.specs.Orders.{account_cmp}
-use Rattle.names.specs.Totals.{account_total}
-use Rattle.names.proofs.Exact.{account_exact}
-use Rattle.names.proofs.EqualLaws.{order_decides, same_party_decides, same_token_decides}
+use Rattle.contract.specs.Collections.Total.{total}
+use Rattle.contract.proofs.FromCollections.Total.{by, total-remove, entries-remove}
+use Rattle.contract.specs.Collections.Keys.{without}
+use Rattle.contract.specs.Names.declared.account.Account.{Account}
+use Rattle.contract.specs.Names.declared.party.Party.{Party}
+use Rattle.contract.specs.Names.declared.payee.Payee.{Payee}
+use Rattle.contract.specs.Names.declared.payee.Payee.TheVariants.{Account as ToAccount, Party as ToParty}
+use Rattle.contract.specs.Names.declared.token.Token.{Token}
+use Rattle.contract.specs.Names.Equal.{same_party, same_token}
+use Rattle.contract.specs.Names.Orders.{account_cmp}
+use Rattle.contract.specs.Names.Totals.{account_total}
+use Rattle.contract.proofs.FromNames.Exact.{account_exact}
+use Rattle.contract.proofs.FromNames.EqualLaws.{order_decides, same_party_decides, same_token_decides}
 use Rattle.contract.specs.declared.interval.Interval.{Interval}
 use Rattle.contract.specs.declared.payment.Payment.{Payment}
-use Rattle.states.specs.States.{StateMaps, money_of, with_money, counted}
-use Rattle.states.proofs.Accounts.{money_of-with_money}
-use Rattle.evaluation.specs.Numbers.{fits}
+use Rattle.contract.specs.States.States.{StateMaps, money_of, with_money, counted}
+use Rattle.contract.proofs.FromStates.Accounts.{money_of-with_money}
+use Rattle.semantics.specs.Evaluation.Numbers.{fits}
 use Rattle.semantics.specs.Reduction.{account_of, refund_of}
 use Rattle.linear.specs.Linear.{Linear, Valuation, number_at, number}
 use Rattle.linear.proofs.NumberLaws.{both, true_lt}

@@ -6,11 +6,11 @@ use Rattle.std.specs.Option.{unwrap_or}
 use Rattle.std.specs.Ordering.{eq_by_cmp}
 use Rattle.std.specs.declared.cmp.Ordering.{Ordering}
 use Rattle.std.specs.FinMap.Entries.{find}
-use Rattle.names.specs.Orders.{account_cmp, choice_id_cmp, bytes_cmp}
+use Rattle.contract.specs.Names.Orders.{account_cmp, choice_id_cmp, bytes_cmp}
 use Rattle.contract.specs.declared.interval.Interval.{Interval}
 use Rattle.contract.specs.declared.payment.Payment.{Payment}
-use Rattle.states.specs.States.{StateMaps}
-use Rattle.evaluation.specs.Numbers.{fits}
+use Rattle.contract.specs.States.States.{StateMaps}
+use Rattle.semantics.specs.Evaluation.Numbers.{fits}
 use Rattle.linear.specs.Linear.{Linear, Valuation, number_at, IsBelow, number, Agree}
 use Rattle.linear.proofs.NumberLaws.{true_lt, true_le, lt_true, le_true}
 use Rattle.linear.proofs.LinearLaws.{same_number}

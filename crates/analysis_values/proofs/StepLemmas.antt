@@ -7,16 +7,16 @@ use Rattle.std.specs.List.{AllByRecursion}
 use Rattle.std.specs.Option.{unwrap_or}
 use Rattle.std.specs.FinMap.{get}
 use Rattle.std.specs.FinMap.Entries.{find}
-use Rattle.names.specs.declared.choice_id.ChoiceId.{ChoiceId}
-use Rattle.names.specs.declared.party.Party.{Party}
-use Rattle.names.specs.declared.token.Token.{Token}
-use Rattle.names.specs.Orders.{account_cmp, choice_id_cmp, bytes_cmp}
+use Rattle.contract.specs.Names.declared.choice_id.ChoiceId.{ChoiceId}
+use Rattle.contract.specs.Names.declared.party.Party.{Party}
+use Rattle.contract.specs.Names.declared.token.Token.{Token}
+use Rattle.contract.specs.Names.Orders.{account_cmp, choice_id_cmp, bytes_cmp}
 use Rattle.contract.specs.declared.interval.Interval.{Interval}
 use Rattle.contract.specs.declared.payment.Payment.{Payment}
 use Rattle.contract.specs.Tree.{ValueTree, available_money, constant, choice_value, time_interval_start, time_interval_end, use_value}
-use Rattle.states.specs.States.{StateMaps}
-use Rattle.evaluation.specs.Evaluation.{eval, visited}
-use Rattle.evaluation.specs.Numbers.{fits}
+use Rattle.contract.specs.States.States.{StateMaps}
+use Rattle.semantics.specs.Evaluation.Evaluation.{eval, visited}
+use Rattle.semantics.specs.Evaluation.Numbers.{fits}
 use Rattle.semantics.specs.Reduction.{account_of}
 use Rattle.linear.specs.Linear.{Linear, Valuation, number_at, IsBelow, number}
 use Rattle.linear.specs.Combined.{StandsFor, AreBelow}

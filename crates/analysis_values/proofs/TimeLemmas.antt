@@ -10,7 +10,7 @@ use Rattle.symbols.specs.Symbols.{Symbols}
 use Rattle.symbols.specs.Held.{GivesAny}
 use Rattle.symbols.specs.Within.{LieIn, IsWithin}
 use Rattle.linear.proofs.LinearLaws.{symbol_at, reach, no_terms}
-use Rattle.evaluation.specs.Numbers.{fits}
+use Rattle.semantics.specs.Evaluation.Numbers.{fits}
 use Rattle.analysis_spec.specs.Promises.{IsWritten}
 use Rattle.analysis_walk.specs.Limits.{Scope, any_runs, written_runs}
 use Rattle.analysis_values.specs.Known.{View, AreTimes, IsSeen, SeesBelow, known}

@@ -5,9 +5,9 @@ use Rattle.std.specs.Option.{IsSomeAnd}
 use Rattle.contract.specs.declared.interval.Interval.{Interval}
 use Rattle.contract.specs.declared.payment.Payment.{Payment}
 use Rattle.contract.specs.Tree.{ValueTree, ObservationTree}
-use Rattle.states.specs.States.{StateMaps}
-use Rattle.evaluation.specs.Evaluation.{eval, visited, holds}
-use Rattle.evaluation.specs.Numbers.{fits}
+use Rattle.contract.specs.States.States.{StateMaps}
+use Rattle.semantics.specs.Evaluation.Evaluation.{eval, visited, holds}
+use Rattle.semantics.specs.Evaluation.Numbers.{fits}
 use Rattle.linear.specs.Linear.{Linear, Valuation, number_at}
 use Rattle.symbols.specs.Symbols.{IsValued, IsClosed, Leads, Gives}
 use Rattle.analysis_spec.specs.declared.kind.AlarmKind.{AlarmKind}

@@ -3,14 +3,14 @@ use Rattle.std.specs.Prelude.{◌≡◌, ℕ, ◌<◌, pos, ◌≤ℤ◌, List, 
 use Rattle.std.specs.Option.{unwrap_or}
 use Rattle.std.specs.FinMap.{get}
 use Rattle.std.specs.FinMap.Entries.{find}
-use Rattle.names.specs.declared.account.Account.{Account}
-use Rattle.names.specs.declared.choice_id.ChoiceId.{ChoiceId}
-use Rattle.names.specs.declared.party.Party.{Party}
-use Rattle.names.specs.declared.token.Token.{Token}
-use Rattle.names.specs.Orders.{account_cmp, choice_id_cmp, bytes_cmp}
+use Rattle.contract.specs.Names.declared.account.Account.{Account}
+use Rattle.contract.specs.Names.declared.choice_id.ChoiceId.{ChoiceId}
+use Rattle.contract.specs.Names.declared.party.Party.{Party}
+use Rattle.contract.specs.Names.declared.token.Token.{Token}
+use Rattle.contract.specs.Names.Orders.{account_cmp, choice_id_cmp, bytes_cmp}
 use Rattle.contract.specs.declared.interval.Interval.{Interval}
 use Rattle.contract.specs.declared.payment.Payment.{Payment}
-use Rattle.states.specs.States.{StateMaps, money_of}
+use Rattle.contract.specs.States.States.{StateMaps, money_of}
 use Rattle.semantics.specs.Reduction.{account_of}
 use Rattle.linear.specs.Linear.{Linear, Valuation, number_at, IsBelow, number}
 use Rattle.symbols.specs.Symbols.{Symbols, IsValued, IsClosed}

@@ -5,8 +5,8 @@ use Rattle.std.specs.Option.{IsSomeAnd}
 use Rattle.contract.specs.declared.interval.Interval.{Interval}
 use Rattle.contract.specs.declared.payment.Payment.{Payment}
 use Rattle.contract.specs.Tree.{ValueTree, add_value, sub_value, mul_value, div_value, cond_value, ObservationTree, value_ge, value_gt, value_lt, value_le, value_eq}
-use Rattle.states.specs.States.{StateMaps}
-use Rattle.evaluation.specs.Evaluation.{quotient, eval, visited, holds, looked}
+use Rattle.contract.specs.States.States.{StateMaps}
+use Rattle.semantics.specs.Evaluation.Evaluation.{quotient, eval, visited, holds, looked}
 use Rattle.linear.specs.Linear.{Linear, Valuation, number_at, IsBelow}
 use Rattle.symbols.specs.Symbols.{Symbols, IsValued, IsClosed, Leads, Gives}
 use Rattle.analysis_spec.specs.declared.kind.AlarmKind.TheVariants.{Leaves128}

@@ -3,7 +3,7 @@ ghost use Rattle.std.specs.Prelude.{◌≡◌, ◌&&◌, IfOk, Some, None};
 ghost use Rattle.analysis_values.specs.Steps.{EvaluatesEither};
 
 use crate::values::{Evaluated, both};
-use collections::Memory;
+use contract::Memory;
 use linear::Linear;
 use symbols::{Symbols, number_of_either};
 

@@ -5,7 +5,7 @@ ghost use Rattle.analysis_values.specs.Steps.{KnowsWhere, HoldsOf, FailsOf, Comp
 use crate::observations::Truths;
 use crate::truths::{where_less, where_no_less, where_other, where_same};
 use crate::values::Operands;
-use collections::{Memory, TryClone};
+use contract::{Memory, TryClone};
 use linear::Linear;
 use symbols::Symbols;
 

@@ -9,8 +9,7 @@ use crate::observations::{Truths, truth_in};
 use crate::plain::is_plain;
 use crate::values::{Evaluated, value_in};
 use crate::view::View;
-use collections::{Boxed, Memory};
-use contract::{Observation, Value};
+use contract::{Boxed, Memory, Observation, Value};
 use symbols::Symbols;
 
 // The most parts of a Cond's observation (comparisons, and what joins them) that it is taken apart to: 8.

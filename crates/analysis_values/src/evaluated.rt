@@ -5,8 +5,7 @@ ghost use Rattle.analysis_values.specs.Answered.{Evaluates, FitsWhereSaid};
 
 use crate::known::Known;
 use crate::values::{Evaluated, value_in};
-use collections::Memory;
-use contract::Value;
+use contract::{Memory, Value};
 
 /// An expression for the number of a value, over what is known, which may have new symbols then; and whether the
 /// numbers on the way are shown to fit 128 bits, in runs whose times JSON can write.

@@ -5,7 +5,7 @@ ghost use Rattle.analysis_values.specs.Junctions.{side_of, DecidesBoth};
 use crate::observations::Truths;
 use crate::truths::joined;
 use crate::values::both;
-use collections::Memory;
+use contract::Memory;
 use symbols::Symbols;
 
 /// What joins two observations.

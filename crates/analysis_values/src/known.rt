@@ -1,7 +1,7 @@
 //! What is known at a place of a contract.
 ghost use Rattle.std.specs.Prelude.{◌≡◌, ◌++◌, true, is_some, IfOk, OnOk};
 ghost use Rattle.std.specs.FinMap.Entries.{find};
-ghost use Rattle.names.specs.Orders.{choice_id_cmp, bytes_cmp};
+ghost use Rattle.contract.specs.Names.Orders.{choice_id_cmp, bytes_cmp};
 ghost use Rattle.semantics.specs.Reduction.{account_of};
 ghost use Rattle.linear.specs.Linear.{number_at};
 ghost use Rattle.linear.specs.Bounded.{IsShown, IsFromAll, IsUpToAll, IsRefuted};
@@ -14,10 +14,8 @@ ghost use Rattle.analysis_values.specs.Answered.{StaysWhereSaid, AddsTime};
 use crate::lookup::{AccountOf, found, has, in_expressions, or_zero, put_first, put_keys};
 use crate::stays::stays;
 use crate::view::View;
-use collections::{Items, Memory, Text, TryClone};
+use contract::{Account, ChoiceId, Items, Memory, Party, State, Text, Token, TryClone};
 use linear::Linear;
-use names::{Account, ChoiceId, Party, Token};
-use states::State;
 use std::alloc::Global;
 use std::marker::Model;
 use symbols::Symbols;

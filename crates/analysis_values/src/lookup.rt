@@ -6,9 +6,9 @@ ghost use Rattle.std.specs.FinMap.Entries.{find};
 ghost use Rattle.linear.specs.Linear.{number};
 ghost use Rattle.analysis_values.specs.Entries.{in_numbers, keys_of};
 
-use collections::{Items, Memory, Probe, TryClone};
+use contract::collections::{Items, Memory, Probe, TryClone};
+use contract::{Account, Party, Token};
 use linear::Linear;
-use names::{Account, Party, Token};
 use std::alloc::Global;
 use std::cmp::Ordering;
 

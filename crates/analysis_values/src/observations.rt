@@ -8,9 +8,7 @@ use crate::comparisons::{Comparison, compared};
 use crate::junctions::{Junction, decided, side};
 use crate::values::both_values;
 use crate::view::View;
-use collections::{Boxed, Memory, TryClone};
-use contract::{Observation, Value};
-use names::ChoiceId;
+use contract::{Boxed, ChoiceId, Memory, Observation, TryClone, Value};
 use symbols::Symbols;
 
 /// What is known of symbols where an observation is true, and where it is false; and whether the numbers that are

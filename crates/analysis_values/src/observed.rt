@@ -9,8 +9,7 @@ use crate::known::Known;
 use crate::observations::truth_in;
 use crate::truths::joined;
 use crate::view::View;
-use collections::{Memory, TryClone};
-use contract::Observation;
+use contract::{Memory, Observation, TryClone};
 use symbols::Symbols;
 
 /// What is known where an observation is true, and where it is false: none where it can't be so. And whether all

@@ -8,7 +8,7 @@ use crate::stays::stays;
 use crate::sums::{difference, sum};
 use crate::values::Evaluated;
 use crate::view::View;
-use collections::Memory;
+use contract::Memory;
 use linear::Linear;
 use symbols::Symbols;
 

@@ -5,7 +5,7 @@ ghost use Rattle.analysis_values.specs.Answered.{StaysWhereSaid};
 ghost use Rattle.analysis_values.specs.Steps.{IsFrom128, StaysAbove};
 
 use crate::view::View;
-use collections::Memory;
+use contract::Memory;
 use linear::{Bounds, Linear};
 use symbols::Symbols;
 

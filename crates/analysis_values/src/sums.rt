@@ -2,7 +2,7 @@
 ghost use Rattle.std.specs.Prelude.{◌+ℤ◌, ◌-ℤ◌, IfOk};
 ghost use Rattle.analysis_values.specs.Steps.{GivesOf};
 
-use collections::Memory;
+use contract::Memory;
 use linear::Linear;
 use symbols::Symbols;
 

@@ -2,7 +2,7 @@
 ghost use Rattle.std.specs.Prelude.{IfOk, Some};
 ghost use Rattle.analysis_values.specs.Steps.{KnowsWhere, LeadsEither, IsNoLess, IsLess, IsSame, IsOther};
 
-use collections::{Memory, TryClone};
+use contract::{Memory, TryClone};
 use linear::Linear;
 use symbols::Symbols;
 

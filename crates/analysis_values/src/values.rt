@@ -6,10 +6,8 @@ ghost use Rattle.analysis_values.specs.Steps.{IsEvaluated, tree_of, EvaluatesOpe
 use crate::conditionals::one_of_two;
 use crate::operations::{Arithmetic, operated, turned};
 use crate::view::View;
-use collections::{Boxed, Memory, Text, TryClone};
-use contract::Value;
+use contract::{Boxed, ChoiceId, Memory, Party, Text, Token, TryClone, Value};
 use linear::Linear;
-use names::{ChoiceId, Party, Token};
 use symbols::Symbols;
 
 /// An expression for the number of a value, and whether all numbers that are visited on the way are shown to fit 128

@@ -2,15 +2,14 @@
 ghost use Rattle.std.specs.Prelude.{◌≡◌, ◌∷◌, pos, is_some, IfOk, OnOk};
 ghost use Rattle.std.specs.Option.{unwrap_or};
 ghost use Rattle.std.specs.FinMap.Entries.{find};
-ghost use Rattle.names.specs.Orders.{choice_id_cmp, bytes_cmp};
+ghost use Rattle.contract.specs.Names.Orders.{choice_id_cmp, bytes_cmp};
 ghost use Rattle.semantics.specs.Reduction.{account_of};
 ghost use Rattle.linear.specs.Linear.{number};
 ghost use Rattle.analysis_values.specs.Known.{held};
 
 use crate::lookup::{AccountOf, copied_entries, copied_times, found, has, or_zero, put_time};
-use collections::{Memory, Text, TryClone};
+use contract::{Account, ChoiceId, Memory, Party, Text, Token, TryClone};
 use linear::Linear;
-use names::{Account, ChoiceId, Party, Token};
 use std::alloc::Global;
 use std::marker::Model;
 

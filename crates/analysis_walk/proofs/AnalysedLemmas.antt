@@ -3,11 +3,11 @@ use Rattle.std.proofs.Common.{◌≡◌, ◌≢◌, ℕ, ℤ, pos, List, [], ◌
 use Rattle.std.proofs.lemmas.Int.{ints}
 use Rattle.std.specs.FinMap.{entries}
 use Rattle.std.specs.FinMap.Entries.{find}
-use Rattle.names.specs.declared.account.Account.{Account}
-use Rattle.names.specs.declared.party.Party.TheVariants.{Role}
-use Rattle.names.specs.Orders.{account_cmp}
+use Rattle.contract.specs.Names.declared.account.Account.{Account}
+use Rattle.contract.specs.Names.declared.party.Party.TheVariants.{Role}
+use Rattle.contract.specs.Names.Orders.{account_cmp}
 use Rattle.contract.specs.Tree.{ContractTree}
-use Rattle.states.specs.States.{StateMaps, AllPositive}
+use Rattle.contract.specs.States.States.{StateMaps, AllPositive}
 use Rattle.semantics.specs.Reduction.{account_of}
 use Rattle.analysis_spec.specs.Promises.{PaysBetween}
 use Rattle.analysis_spec.specs.declared.alarm.Alarm.{Alarm}

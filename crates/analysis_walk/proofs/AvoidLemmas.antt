@@ -7,7 +7,7 @@ use Rattle.std.specs.Option.{is_none}
 use Rattle.std.specs.Int.{int_max}
 use Rattle.std.specs.Result.{result_unwrap_or}
 use Rattle.std.specs.FinMap.{entries, empty}
-use Rattle.names.specs.declared.account.Account.{Account}
+use Rattle.contract.specs.Names.declared.account.Account.{Account}
 use Rattle.contract.specs.declared.fault.SemFault.{SemFault}
 use Rattle.contract.specs.declared.fault.SemFault.TheVariants.{InvalidInterval, IntervalInPast, Ambiguous, NoMatch, Useless}
 use Rattle.contract.specs.declared.input.Input.{Input}
@@ -15,10 +15,10 @@ use Rattle.contract.specs.declared.interval.Interval.{Interval}
 use Rattle.contract.specs.declared.payment.Payment.{Payment}
 use Rattle.contract.specs.declared.transaction.Transaction.{Transaction}
 use Rattle.contract.specs.Tree.{ActionTree, ContractTree, CaseTrees, close, pay, if_obs, when, let_be, assert, no_cases, case_then}
-use Rattle.states.specs.States.{StateMaps}
-use Rattle.evaluation.specs.Evaluation.{eval, visited, holds, looked}
-use Rattle.evaluation.specs.Path.{case_list, waits_for}
-use Rattle.evaluation.specs.Numbers.{all_fit}
+use Rattle.contract.specs.States.States.{StateMaps}
+use Rattle.semantics.specs.Evaluation.Evaluation.{eval, visited, holds, looked}
+use Rattle.semantics.specs.Evaluation.Path.{case_list, waits_for}
+use Rattle.semantics.specs.Evaluation.Numbers.{all_fit}
 use Rattle.semantics.specs.Walk.{Turn, refund, next, Standing, standing, Walk, ended, then_from, then_walk, answer_of}
 use Rattle.semantics.specs.Reduction.{Reduction, choosing, timing_out, binding, asserting}
 use Rattle.semantics.specs.Settling.{reduction_then}

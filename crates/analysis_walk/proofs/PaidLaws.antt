@@ -7,21 +7,21 @@ use Rattle.std.specs.List.{AllByRecursion}
 use Rattle.std.specs.Int.{int_max}
 use Rattle.std.specs.Result.{result_unwrap_or}
 use Rattle.std.specs.FinMap.{empty, entries}
-use Rattle.collections.specs.Total.{total}
-use Rattle.names.specs.declared.party.Party.{Party}
-use Rattle.names.specs.declared.payee.Payee.{Payee}
-use Rattle.names.specs.declared.payee.Payee.TheVariants.{Account as ToAccount, Party as ToParty}
-use Rattle.names.specs.declared.token.Token.{Token}
-use Rattle.names.specs.Equal.{same_party, same_token}
+use Rattle.contract.specs.Collections.Total.{total}
+use Rattle.contract.specs.Names.declared.party.Party.{Party}
+use Rattle.contract.specs.Names.declared.payee.Payee.{Payee}
+use Rattle.contract.specs.Names.declared.payee.Payee.TheVariants.{Account as ToAccount, Party as ToParty}
+use Rattle.contract.specs.Names.declared.token.Token.{Token}
+use Rattle.contract.specs.Names.Equal.{same_party, same_token}
 use Rattle.contract.specs.declared.fault.SemFault.{SemFault}
 use Rattle.contract.specs.declared.fault.SemFault.TheVariants.{InvalidInterval, IntervalInPast, Ambiguous}
 use Rattle.contract.specs.declared.interval.Interval.{Interval}
 use Rattle.contract.specs.declared.payment.Payment.{Payment}
 use Rattle.contract.specs.declared.transaction.Transaction.{Transaction}
 use Rattle.contract.specs.Tree.{ContractTree, close, pay, if_obs, when, let_be, assert}
-use Rattle.states.specs.States.{StateMaps, AllPositive, counted}
-use Rattle.evaluation.specs.Evaluation.{eval, visited, holds}
-use Rattle.evaluation.specs.Timeouts.{later, last, last_in}
+use Rattle.contract.specs.States.States.{StateMaps, AllPositive, counted}
+use Rattle.semantics.specs.Evaluation.Evaluation.{eval, visited, holds}
+use Rattle.semantics.specs.Evaluation.Timeouts.{later, last, last_in}
 use Rattle.semantics.specs.Walk.{Standing, standing, Walk, ended, then_from, answer_of}
 use Rattle.semantics.specs.Reduction.{refund_of, timing_out, binding}
 use Rattle.semantics.specs.Settling.{reduction_then}
@@ -30,7 +30,7 @@ use Rattle.semantics.specs.Closing.{HasReached, IsSpent}
 use Rattle.semantics.specs.Naturals.{AreNatural, PaymentsAreNatural, AccountsStayPositive}
 use Rattle.semantics.specs.Computed.{pay_step, settled, all_inputs, from_start, computed}
 use Rattle.semantics.specs.Laws.{TimeGoesOn}
-use Rattle.evaluation.specs.Numbers.{all_fit}
+use Rattle.semantics.specs.Evaluation.Numbers.{all_fit}
 use Rattle.analysis_spec.specs.Runs.{walk_from, standing_after, stands_after, payments_of, reaches_party, paid_to}
 use Rattle.analysis_spec.specs.Marks.{leads_after, settling}
 use Rattle.analysis_spec.specs.Promises.{PaysBetween}

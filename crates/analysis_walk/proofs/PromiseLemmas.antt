@@ -5,8 +5,8 @@ use Rattle.std.specs.List.{AllByRecursion}
 use Rattle.contract.specs.declared.interval.Interval.{Interval}
 use Rattle.contract.specs.declared.transaction.Transaction.{Transaction}
 use Rattle.contract.specs.declared.warning.Warning.{Warning}
-use Rattle.evaluation.specs.Numbers.{fits, all_fit}
-use Rattle.evaluation.proofs.Numbers.{all_fit_append}
+use Rattle.semantics.specs.Evaluation.Numbers.{fits, all_fit}
+use Rattle.semantics.proofs.FromEvaluation.Numbers.{all_fit_append}
 use Rattle.semantics.specs.Walk.{standing, answer_of}
 use Rattle.semantics.specs.Laws.{TimeGoesOn}
 use Rattle.analysis_spec.specs.declared.kind.AlarmKind.{AlarmKind}

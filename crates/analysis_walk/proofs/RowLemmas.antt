@@ -6,11 +6,11 @@ use Rattle.std.proofs.lemmas.List.{take_more, take_all}
 use Rattle.std.specs.Option.{IsSomeAnd, option_or, unwrap_or}
 use Rattle.std.specs.Ordering.{eq_by_cmp}
 use Rattle.std.specs.FinMap.Entries.{find, put, find-put}
-use Rattle.names.specs.declared.account.Account.{Account}
-use Rattle.names.specs.Orders.{account_cmp}
-use Rattle.names.specs.Totals.{account_total}
-use Rattle.names.proofs.Exact.{account_exact}
-use Rattle.names.proofs.EqualLaws.{order_decides}
+use Rattle.contract.specs.Names.declared.account.Account.{Account}
+use Rattle.contract.specs.Names.Orders.{account_cmp}
+use Rattle.contract.specs.Names.Totals.{account_total}
+use Rattle.contract.proofs.FromNames.Exact.{account_exact}
+use Rattle.contract.proofs.FromNames.EqualLaws.{order_decides}
 use Rattle.semantics.specs.Reduction.{account_of}
 use Rattle.analysis_spec.specs.declared.paid.PaidRange.{PaidRange}
 use Rattle.analysis_walk.proofs.ListLaws.{all_append, all_left, all_right}

@@ -5,8 +5,8 @@ use Rattle.contract.specs.declared.input.Input.{Input}
 use Rattle.contract.specs.declared.interval.Interval.{Interval}
 use Rattle.contract.specs.declared.payment.Payment.{Payment}
 use Rattle.contract.specs.Tree.{ActionTree, ContractTree, CaseTrees, close, pay, if_obs, when, let_be, assert, no_cases, case_then}
-use Rattle.states.specs.States.{StateMaps}
-use Rattle.evaluation.specs.Evaluation.{eval, visited, holds, looked}
+use Rattle.contract.specs.States.States.{StateMaps}
+use Rattle.semantics.specs.Evaluation.Evaluation.{eval, visited, holds, looked}
 use Rattle.semantics.specs.Reduction.{binding, asserting}
 use Rattle.semantics.specs.Applying.{matches, taken}
 use Rattle.semantics.specs.Computed.{pay_step}

@@ -1,6 +1,6 @@
 -- What a walk finds on its way: it holds of whichever alarms and ranges are at least those that are found.
 use Rattle.std.specs.Prelude.{◌≡◌, ◌≢◌, take, get_or, ℕ, suc, ℤ, List, [], ◌∷◌, ◌++◌, length, map, Option, IfSome}
-use Rattle.names.specs.declared.account.Account.{Account}
+use Rattle.contract.specs.Names.declared.account.Account.{Account}
 use Rattle.contract.specs.declared.tree.Case.{Case}
 use Rattle.contract.specs.declared.tree.Contract.{Contract}
 use Rattle.contract.specs.Tree.{ActionTree, ContractTree, when, CaseTrees, case_then, action_tree, case_tree, case_trees, contract_tree}

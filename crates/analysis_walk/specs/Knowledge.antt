@@ -1,8 +1,8 @@
 -- What is concluded of steps.
 use Rattle.std.specs.Prelude.{List, [], ◌∷◌}
-use Rattle.names.specs.declared.account.Account.{Account}
-use Rattle.names.specs.declared.party.Party.{Party}
-use Rattle.names.specs.declared.token.Token.{Token}
+use Rattle.contract.specs.Names.declared.account.Account.{Account}
+use Rattle.contract.specs.Names.declared.party.Party.{Party}
+use Rattle.contract.specs.Names.declared.token.Token.{Token}
 use Rattle.contract.specs.declared.tree.Case.{Case}
 use Rattle.contract.specs.Tree.{ActionTree, deposit, choice, notify, action_tree}
 use Rattle.analysis_walk.specs.declared.conclusion.Conclusion.{Conclusion}

@@ -3,7 +3,7 @@ use Rattle.std.specs.Prelude.{List}
 use Rattle.std.specs.List.{AllByRecursion}
 use Rattle.std.specs.FinMap.{entries}
 use Rattle.contract.specs.Tree.{ContractTree}
-use Rattle.states.specs.States.{StateMaps, AllPositive}
+use Rattle.contract.specs.States.States.{StateMaps, AllPositive}
 use Rattle.analysis_spec.specs.Promises.{PaysBetween, NeverReached}
 use Rattle.analysis_spec.specs.Analysed.{NamesWhereItComes, NamesWhereItLeaves}
 use Rattle.analysis_spec.specs.declared.alarm.Alarm.{Alarm}

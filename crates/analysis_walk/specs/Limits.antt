@@ -4,7 +4,7 @@ use Rattle.std.specs.List.{AllByRecursion}
 use Rattle.contract.specs.declared.interval.Interval.{Interval}
 use Rattle.contract.specs.declared.payment.Payment.{Payment}
 use Rattle.contract.specs.declared.warning.Warning.{Warning}
-use Rattle.evaluation.specs.Numbers.{fits}
+use Rattle.semantics.specs.Evaluation.Numbers.{fits}
 use Rattle.analysis_spec.specs.declared.kind.AlarmKind.{AlarmKind}
 use Rattle.analysis_spec.specs.declared.kind.AlarmKind.TheVariants.{Leaves128}
 use Rattle.analysis_spec.specs.Runs.{paid_to}

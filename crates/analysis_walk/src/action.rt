@@ -5,8 +5,7 @@ ghost use Rattle.analysis_walk.specs.Knowledge.{actions_before, TakesSo};
 
 use crate::conclusion::Conclusion;
 use crate::knowledge::Knowledge;
-use collections::Memory;
-use contract::{Action, Case};
+use contract::{Action, Case, Memory};
 use std::alloc::Global;
 
 /// What is concluded of the action of a case, where it is taken, and no earlier case takes its input.

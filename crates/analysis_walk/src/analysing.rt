@@ -11,9 +11,7 @@ use crate::laws::{
 };
 use crate::walk::walk;
 use analysis_spec::{Alarm, PaidRange, PathStep, leaving_has_a_place, warnings_have_places};
-use collections::{Items, Memory};
-use contract::Contract;
-use states::State;
+use contract::{Contract, Items, Memory, State};
 use std::alloc::Global;
 
 /// What was found of a contract: what may go wrong, with places, what parties are paid, and places to which no run comes.

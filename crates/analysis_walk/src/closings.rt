@@ -6,8 +6,7 @@ ghost use Rattle.analysis_walk.specs.Rows.{AreMet, Adds, AreBounded, NameAll, ra
 use crate::row::{Row, named, paid_span};
 use crate::span::Span;
 use analysis_spec::PaidRange;
-use collections::{Entries, Items, Memory, TryClone};
-use names::Account;
+use contract::{Account, Entries, Items, Memory, TryClone};
 use std::alloc::{AllocError, Global};
 
 /// All closes so far, and what parties are paid at them.

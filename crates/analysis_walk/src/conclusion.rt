@@ -1,6 +1,6 @@
 //! What is concluded of a step.
 use analysis_spec::AlarmKind;
-use collections::Items;
+use contract::Items;
 
 /// What may go wrong at a step, and what is known afterwards: nothing where the step can't be.
 #[derive(Drop)]

@@ -8,9 +8,7 @@ ghost use Rattle.analysis_walk.specs.Found.{Finds, TellsOf, PaysWithin, Nothing}
 use crate::closings::Closings;
 use crate::span::Span;
 use analysis_spec::{Alarm, AlarmKind, PathStep};
-use collections::{Items, Memory};
-use contract::Case;
-use names::Account;
+use contract::{Account, Case, Items, Memory};
 use std::alloc::Global;
 
 /// Alarms, what parties are paid wherever the contract is closed, and places to which no run comes, as far as a walk has

@@ -3,17 +3,17 @@ ghost use Rattle.std.specs.Prelude.{List, IfOk};
 ghost use Rattle.contract.specs.declared.interval.Interval.{Interval};
 ghost use Rattle.contract.specs.declared.payment.Payment.{Payment};
 ghost use Rattle.contract.specs.Tree.{value_tree, observation_tree};
-ghost use Rattle.states.specs.States.{StateMaps};
+ghost use Rattle.contract.specs.States.States.{StateMaps};
 ghost use Rattle.analysis_walk.specs.Limits.{Scope};
 ghost use Rattle.analysis_walk.specs.Conclusions.{PaysSo, BindsSo, AssertsSo, ObservesSo, DepositsSo, ChoosesSo, NotifiesSo, IsLater, WaitsSo, TimesOutSo, DescribesStart};
 ghost use Rattle.analysis_walk.specs.Knowledge.{actions_before, ClosesBy};
 
 use crate::conclusion::{Branches, Conclusion};
 use crate::span::Span;
-use collections::{Entries, Items, Memory, Text, TryClone};
-use contract::{Case, Observation, Value};
-use names::{Account, Bound, ChoiceId, Party, Payee, Token};
-use states::State;
+use contract::{
+    Account, Bound, Case, ChoiceId, Entries, Items, Memory, Observation, Party, Payee, State, Text,
+    Token, TryClone, Value,
+};
 use std::alloc::Global;
 
 /// A way to know runs, and what is concluded of each step of a contract from what is known. What a call returns is

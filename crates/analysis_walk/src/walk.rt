@@ -11,8 +11,7 @@ use crate::found::Found;
 use crate::knowledge::Knowledge;
 use crate::weight::{is_closed, largest, weight};
 use analysis_spec::PathStep;
-use collections::{Memory, TryClone};
-use contract::{Case, Contract};
+use contract::{Case, Contract, Memory, TryClone};
 use std::alloc::Global;
 
 /// Finds what may go wrong in a contract at a place, from what is known there, what parties are paid where it is closed,

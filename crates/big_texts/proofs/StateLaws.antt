@@ -5,12 +5,12 @@ use Rattle.std.specs.Int.{w128}
 use Rattle.std.specs.Fmt.{signed_decimal}
 use Rattle.std.specs.FinMap.{FinMap, empty, contains_key, insert, entries}
 use Rattle.std.specs.declared.cmp.Ordering.{Ordering}
-use Rattle.collections.specs.Answers.{◌>>=◌}
-use Rattle.names.specs.declared.account.Account.{Account}
-use Rattle.names.specs.declared.choice_id.ChoiceId.{ChoiceId}
-use Rattle.names.specs.declared.party.Party.{Party}
-use Rattle.names.specs.declared.party.Party.TheVariants as parties
-use Rattle.names.specs.Orders.{bytes_cmp, account_cmp, choice_id_cmp}
+use Rattle.contract.specs.Collections.Answers.{◌>>=◌}
+use Rattle.contract.specs.Names.declared.account.Account.{Account}
+use Rattle.contract.specs.Names.declared.choice_id.ChoiceId.{ChoiceId}
+use Rattle.contract.specs.Names.declared.party.Party.{Party}
+use Rattle.contract.specs.Names.declared.party.Party.TheVariants as parties
+use Rattle.contract.specs.Names.Orders.{bytes_cmp, account_cmp, choice_id_cmp}
 use Rattle.serde_json.specs.Data.{Num, unsigned, negative, float, Data, null, boolean, number, string, array, object, Items, no_items, item, Members, no_members, member}
 use Rattle.serde_json.specs.Find.{of_integer}
 use Rattle.serde_json.specs.View.{items_of}

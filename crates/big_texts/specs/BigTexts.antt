@@ -2,7 +2,7 @@
 -- -2^53 to 2^53 and not all others.
 use Rattle.std.specs.Prelude.{ℕ, ℤ, pos, neg_ℤ, ◌^◌, int_lt, Bool, false, ◌||◌, List, codes, option_map, if◌then◌else◌}
 use Rattle.std.specs.Option.{unwrap_or}
-use Rattle.names.specs.Equal.{same_text}
+use Rattle.contract.specs.Names.Equal.{same_text}
 use Rattle.serde_json.specs.Data.{Num, Data, null, boolean, number, string, array, object, Items, no_items, item, Members, no_members, member}
 use Rattle.serde_json.specs.Find.{as_integer}
 use Rattle.serde_json.specs.Written.{number_text}

@@ -6,7 +6,7 @@ use Rattle.serde_json.specs.Written.{compact_text}
 use Rattle.contract.specs.Tree.{ContractTree}
 use Rattle.contract.specs.declared.payment.Payment.{Payment}
 use Rattle.contract.specs.declared.warning.Warning.{Warning}
-use Rattle.states.specs.States.{StateMaps}
+use Rattle.contract.specs.States.States.{StateMaps}
 use Rattle.json_read_inputs.specs.ReadsState.{state_with_texts}
 use Rattle.json_write_contracts.specs.WrittenNames.{time_fits}
 use Rattle.json_write_contracts.specs.WrittenContract.{contract_fits}

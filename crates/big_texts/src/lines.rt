@@ -1,7 +1,7 @@
 //! Lines, token by token.
 ghost use Rattle.std.specs.Prelude.{◌≡◌, ◌≢◌, ◌++◌, [], ◌∷◌, map, flat_map, IfOk, OnOk, if◌then◌else◌};
 ghost use Rattle.std.specs.Str.Lines.{lines};
-ghost use Rattle.collections.specs.Answers.{Aside};
+ghost use Rattle.contract.specs.Collections.Answers.{Aside};
 ghost use Rattle.json.specs.Token.{number, string};
 ghost use Rattle.json.specs.Reads.{token_of};
 ghost use Rattle.json.specs.Print.{IsPrintable};
@@ -11,7 +11,7 @@ ghost use Rattle.big_texts.specs.BigTexts.{is_big};
 ghost use Rattle.big_texts.specs.Lines.{big_as_text, is_big_text, line_with_texts, number_token, told};
 
 use crate::place::{Place, behind};
-use collections::Memory;
+use contract::Memory;
 use json::{Reader, Scratch, Token, Writer};
 use json_read_names::JsonFault;
 use std::alloc::{AllocError, Global};

@@ -4,7 +4,7 @@ ghost use Rattle.json.specs.Reads.{token_of};
 ghost use Rattle.big_texts.specs.BigTexts.{stays};
 ghost use Rattle.big_texts.specs.Lines.{behind, behind_key, behind_one, closed, less, opened};
 
-use collections::Memory;
+use contract::Memory;
 use json::Token;
 use std::alloc::AllocError;
 

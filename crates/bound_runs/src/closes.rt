@@ -1,7 +1,6 @@
 //! The places of a contract at which it is closed.
 use analysis_spec::PathStep;
-use collections::Memory;
-use contract::Contract;
+use contract::{Contract, Memory};
 use std::alloc::Global;
 
 // A part that is still to be gone through: so many steps lead to the contract that it lies in, and this one into it.

@@ -3,8 +3,7 @@
 //! Nothing of it has to be believed: what it finds is played again.
 use crate::closes::Closes;
 use analysis_spec::{PaidRange, PathStep};
-use collections::{Items, Memory, TryClone};
-use contract::{Contract, State, Transaction};
+use contract::{Contract, Items, Memory, State, Transaction, TryClone};
 use counter_runs::ClosingRuns;
 use losses::Loss;
 use reached_bounds::{Played, loses, pays, play};

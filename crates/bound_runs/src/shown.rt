@@ -8,8 +8,7 @@ ghost use Rattle.bound_runs.specs.Told.{HasNumbers, IsReached, IsLost, AreReache
 use crate::seeking::{Found, seek};
 use crate::written::if_written;
 use analysis_spec::PaidRange;
-use collections::{Items, Memory};
-use contract::{Contract, State, Transaction};
+use contract::{Contract, Items, Memory, State, Transaction};
 use losses::Loss;
 use reached_bounds::{reaches_least, reaches_loss, reaches_most};
 use std::alloc::Global;

@@ -2,8 +2,7 @@
 ghost use Rattle.std.specs.Prelude.{◌≡◌, true, All, IfSome};
 ghost use Rattle.bound_runs.specs.Told.{HasNumber, HasNumbers};
 
-use collections::Items;
-use contract::{Input, Transaction};
+use contract::{Input, Items, Transaction};
 use counter_runs::is_written;
 
 /// A run, if JSON has all its numbers.

@@ -1,11 +1,11 @@
 -- Which clause of a request of parts answers, and what funds it.
 use Rattle.std.proofs.Common.{◌≡◌, ℕ, ℤ, ◌+◌, ◌<◌, Bool, true, List, [], ◌∷◌, ◌++◌, map, length, drop, get_or, is_none, Option, Some, None, refl, sym, ◌∙◌, ap, subst}
 use Rattle.std.specs.List.{list_all, filter_map}
-use Rattle.names.specs.declared.token.Token.{Token}
-use Rattle.bundle.specs.Bundles.{Amounts}
-use Rattle.eutxo.specs.Faults.{first_of}
-use Rattle.roles.specs.Steps.{actor}
-use Rattle.ledger.specs.declared.look.Unspent.{Unspent}
+use Rattle.contract.specs.Names.declared.token.Token.{Token}
+use Rattle.builder_spec.specs.Bundle.Bundles.{Amounts}
+use Rattle.builder_spec.specs.Eutxo.Faults.{first_of}
+use Rattle.builder_spec.specs.Roles.Steps.{actor}
+use Rattle.builder_spec.specs.Ledger.declared.look.Unspent.{Unspent}
 use Rattle.builder_spec.specs.declared.fault.BuildFault.TheVariants.{NotAuthorised, NoFunds}
 use Rattle.builder_spec.specs.Requests.{StepsRequest}
 use Rattle.builder_spec.specs.Holding.{sums, amount_in, holds_token, least_lacking, AreBundles}

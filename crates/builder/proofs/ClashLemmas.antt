@@ -2,11 +2,11 @@
 use Rattle.std.proofs.Common.{◌≡◌, ℕ, zero, suc, ◌-◌, ◌<◌, ◌≤◌, Bool, true, false, not, ◌&&◌, ◌||◌, if◌then◌else◌, List, [], ◌∷◌, length, drop, get_or, Option, Some, None, refl, sym, ◌∙◌, ap}
 use Rattle.std.specs.Bool.{one_answer}
 use Rattle.std.specs.List.{list_any}
-use Rattle.collections.proofs.SameLaws.{same_by_decides}
-use Rattle.roles.specs.contracts.published.Published as publications
-use Rattle.roles.specs.declared.published.Published.{Published}
-use Rattle.names.proofs.EqualLaws.{same_bytes_decides}
-use Rattle.eutxo_types.specs.Parts.{same_bytes}
+use Rattle.contract.proofs.FromCollections.SameLaws.{same_by_decides}
+use Rattle.builder_spec.specs.Roles.contracts.published.Published as publications
+use Rattle.builder_spec.specs.Roles.declared.published.Published.{Published}
+use Rattle.contract.proofs.FromNames.EqualLaws.{same_bytes_decides}
+use Rattle.builder_spec.specs.EutxoTypes.Parts.{same_bytes}
 use Rattle.builder_spec.specs.Steps.{Stepped}
 use Rattle.builder_spec.specs.Parts.{same_published, clash, has_clash}
 use Rattle.coin_selection.proofs.ListLaws.{back}

@@ -7,13 +7,13 @@ use Rattle.std.specs.declared.cmp.Ordering.{Ordering}
 use Rattle.std.specs.declared.cmp.Ordering.TheVariants.{Less, Equal, Greater}
 use Rattle.std.specs.FinMap.{FinMap, entries, empty, from_sorted, entries-from_sorted, entries_sorted, get-entries, same_map}
 use Rattle.std.specs.FinMap.Entries.{find, put, is_sorted, below_all, by_order}
-use Rattle.collections.proofs.Maps.{no_entries}
-use Rattle.collections.proofs.Places.{second, third}
-use Rattle.names.specs.declared.account.Account.{Account}
-use Rattle.names.specs.Orders.{account_cmp, choice_id_cmp, bytes_cmp}
-use Rattle.names.specs.Totals.{account_total}
-use Rattle.names.proofs.Exact.{account_exact}
-use Rattle.states.specs.States.{StateMaps}
+use Rattle.contract.proofs.FromCollections.Maps.{no_entries}
+use Rattle.contract.proofs.FromCollections.Places.{second, third}
+use Rattle.contract.specs.Names.declared.account.Account.{Account}
+use Rattle.contract.specs.Names.Orders.{account_cmp, choice_id_cmp, bytes_cmp}
+use Rattle.contract.specs.Names.Totals.{account_total}
+use Rattle.contract.proofs.FromNames.Exact.{account_exact}
+use Rattle.contract.specs.States.States.{StateMaps}
 use Rattle.builder_spec.specs.Starts.{fresh_state}
 use Rattle.coin_selection.proofs.ListLaws.{here, up_to}
 

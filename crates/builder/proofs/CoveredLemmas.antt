@@ -5,23 +5,23 @@ use Rattle.std.specs.List.{list_all, find, filter_map}
 use Rattle.std.specs.Option.{option_map}
 use Rattle.std.specs.FinMap.{entries}
 use Rattle.std.specs.Ordering.{eq_by_cmp}
-use Rattle.names.specs.declared.party.Party.{Party}
-use Rattle.names.specs.declared.payee.Payee.{Payee}
-use Rattle.names.specs.declared.payee.Payee.TheVariants as to
-use Rattle.names.specs.declared.party.Party.TheVariants.{Address, Role}
-use Rattle.names.specs.declared.token.Token.{Token}
-use Rattle.names.specs.Orders.{token_cmp}
+use Rattle.contract.specs.Names.declared.party.Party.{Party}
+use Rattle.contract.specs.Names.declared.payee.Payee.{Payee}
+use Rattle.contract.specs.Names.declared.payee.Payee.TheVariants as to
+use Rattle.contract.specs.Names.declared.party.Party.TheVariants.{Address, Role}
+use Rattle.contract.specs.Names.declared.token.Token.{Token}
+use Rattle.contract.specs.Names.Orders.{token_cmp}
 use Rattle.contract.specs.declared.payment.Payment.{Payment}
-use Rattle.states.specs.States.{StateMaps, counted}
-use Rattle.semantics.specs.Money.{taken_out, paid_out}
-use Rattle.semantics.specs.Naturals.{AreNatural}
-use Rattle.bundle.specs.Bundles.{Amounts, amount_of, covers, AllPositive}
-use Rattle.bundle.proofs.CoverLaws.{covers_each_token, each_token_is_covered}
-use Rattle.eutxo_types.specs.declared.output.Output.{Output}
-use Rattle.eutxo.specs.Faults.{is_empty}
-use Rattle.roles.specs.Sums.{sums_of}
-use Rattle.roles.specs.Steps.{role_token}
-use Rattle.ledger.specs.declared.look.Unspent.{Unspent}
+use Rattle.contract.specs.States.States.{StateMaps, counted}
+use Rattle.builder_spec.specs.Semantics.Money.{taken_out, paid_out}
+use Rattle.builder_spec.specs.Semantics.Naturals.{AreNatural}
+use Rattle.builder_spec.specs.Bundle.Bundles.{Amounts, amount_of, covers, AllPositive}
+use Rattle.builder_spec.proofs.FromBundle.CoverLaws.{covers_each_token, each_token_is_covered}
+use Rattle.builder_spec.specs.EutxoTypes.declared.output.Output.{Output}
+use Rattle.builder_spec.specs.Eutxo.Faults.{is_empty}
+use Rattle.builder_spec.specs.Roles.Sums.{sums_of}
+use Rattle.builder_spec.specs.Roles.Steps.{role_token}
+use Rattle.builder_spec.specs.Ledger.declared.look.Unspent.{Unspent}
 use Rattle.builder_spec.specs.Holding.{sums, amount_in, holds_token, wanted, least_lacking, AreBundles}
 use Rattle.builder_spec.specs.Fronts.{shortest, suffices}
 use Rattle.builder_spec.specs.Causes.{is_much}

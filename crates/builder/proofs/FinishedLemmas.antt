@@ -1,14 +1,14 @@
 -- Steps that may be laid out: there is room for what is left of each, they cover what they make, and they are laid out as they have to be.
 use Rattle.std.proofs.Common.{◌≡◌, true, false, List, ◌++◌, map, sym, ◌∙◌, ap, subst}
 use Rattle.contract.specs.declared.outcome.Outcome.{Outcome}
-use Rattle.semantics.specs.Laws.{EndsQuiet}
-use Rattle.semantics.specs.Money.{MoneyIsKept}
-use Rattle.semantics.specs.Naturals.{PaymentsAreNatural}
-use Rattle.nodes.specs.declared.cont.Cont.{Cont}
-use Rattle.bundle.specs.Bundles.{covers, minus}
-use Rattle.machine.specs.declared.datum.Datum.{Datum}
-use Rattle.eutxo_types.specs.declared.output.Output.{Output}
-use Rattle.eutxo_types.specs.declared.tx.Tx.{Tx}
+use Rattle.builder_spec.specs.Semantics.Laws.{EndsQuiet}
+use Rattle.builder_spec.specs.Semantics.Money.{MoneyIsKept}
+use Rattle.builder_spec.specs.Semantics.Naturals.{PaymentsAreNatural}
+use Rattle.builder_spec.specs.Nodes.declared.cont.Cont.{Cont}
+use Rattle.builder_spec.specs.Bundle.Bundles.{covers, minus}
+use Rattle.builder_spec.specs.Machine.declared.datum.Datum.{Datum}
+use Rattle.builder_spec.specs.EutxoTypes.declared.output.Output.{Output}
+use Rattle.builder_spec.specs.EutxoTypes.declared.tx.Tx.{Tx}
 use Rattle.builder_spec.specs.Requests.{StepsRequest}
 use Rattle.builder_spec.specs.Holding.{sums, amount_in}
 use Rattle.builder_spec.specs.Causes.{is_much}

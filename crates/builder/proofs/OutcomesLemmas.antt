@@ -3,14 +3,14 @@ use Rattle.std.proofs.Common.{◌≡◌, ℕ, zero, suc, ◌+◌, ◌<◌, true,
 use Rattle.contract.specs.declared.input.Input.{Input}
 use Rattle.contract.specs.declared.interval.Interval.{Interval}
 use Rattle.contract.specs.declared.outcome.Outcome.{Outcome}
-use Rattle.semantics.specs.Walk.{Walk, standing, answer_of}
-use Rattle.semantics.specs.Computed.{computed}
-use Rattle.nodes.specs.declared.cont.Cont.{Cont}
-use Rattle.table.specs.Flat.{Flat, Has, a_cont, cont_tree}
-use Rattle.table.specs.Along.{has_cont, cont_along}
-use Rattle.table.specs.AlongLaws.{along_at, along_tree}
-use Rattle.machine.specs.declared.datum.Datum.{Datum}
-use Rattle.roles.specs.declared.published.Published.{Published}
+use Rattle.builder_spec.specs.Semantics.Walk.{Walk, standing, answer_of}
+use Rattle.builder_spec.specs.Semantics.Computed.{computed}
+use Rattle.builder_spec.specs.Nodes.declared.cont.Cont.{Cont}
+use Rattle.builder_spec.specs.Table.Flat.{Flat, Has, a_cont, cont_tree}
+use Rattle.builder_spec.specs.Table.Along.{has_cont, cont_along}
+use Rattle.builder_spec.specs.Table.AlongLaws.{along_at, along_tree}
+use Rattle.builder_spec.specs.Machine.declared.datum.Datum.{Datum}
+use Rattle.builder_spec.specs.Roles.declared.published.Published.{Published}
 use Rattle.builder_spec.specs.Requests.{StepsRequest}
 use Rattle.builder_spec.specs.Steps.{Stepped}
 use Rattle.builder_spec.specs.Parts.{part_walk}

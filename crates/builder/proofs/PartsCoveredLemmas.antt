@@ -4,27 +4,27 @@ use Rattle.std.proofs.lemmas.Int.{ints}
 use Rattle.std.specs.List.{cons_option}
 use Rattle.std.specs.FinMap.{entries}
 use Rattle.std.specs.Ordering.{eq_by_cmp}
-use Rattle.names.specs.declared.token.Token.{Token}
-use Rattle.names.specs.Orders.{token_cmp}
+use Rattle.contract.specs.Names.declared.token.Token.{Token}
+use Rattle.contract.specs.Names.Orders.{token_cmp}
 use Rattle.contract.specs.declared.input.Input.{Input}
 use Rattle.contract.specs.declared.input.Input.TheVariants.{Deposit, Choice, Notify}
 use Rattle.contract.specs.declared.outcome.Outcome.{Outcome}
-use Rattle.states.specs.States as states
-use Rattle.states.specs.States.{counted}
-use Rattle.semantics.specs.Walk.{Standing, standing}
-use Rattle.semantics.specs.Laws.{EndsQuiet}
-use Rattle.semantics.specs.Money.{deposited, paid_out, MoneyIsKept}
-use Rattle.semantics.specs.Naturals.{PaymentsAreNatural}
-use Rattle.nodes.specs.declared.cont.Cont.{Cont}
-use Rattle.table.specs.Flat.{cont_tree, is_close}
-use Rattle.bundle.specs.Bundles.{Amounts, amount_of, covers}
-use Rattle.bundle.specs.Totals.{total_of}
-use Rattle.bundle.proofs.CoverLaws.{each_token_is_covered}
-use Rattle.machine.specs.declared.datum.Datum.{Datum}
-use Rattle.eutxo_types.specs.declared.output.Output.{Output}
-use Rattle.roles.specs.Sums.{sums_of}
-use Rattle.roles.specs.Steps.{continuation, due_outputs}
-use Rattle.ledger.specs.declared.look.Unspent.{Unspent}
+use Rattle.contract.specs.States.States as states
+use Rattle.contract.specs.States.States.{counted}
+use Rattle.builder_spec.specs.Semantics.Walk.{Standing, standing}
+use Rattle.builder_spec.specs.Semantics.Laws.{EndsQuiet}
+use Rattle.builder_spec.specs.Semantics.Money.{deposited, paid_out, MoneyIsKept}
+use Rattle.builder_spec.specs.Semantics.Naturals.{PaymentsAreNatural}
+use Rattle.builder_spec.specs.Nodes.declared.cont.Cont.{Cont}
+use Rattle.builder_spec.specs.Table.Flat.{cont_tree, is_close}
+use Rattle.builder_spec.specs.Bundle.Bundles.{Amounts, amount_of, covers}
+use Rattle.builder_spec.specs.Bundle.Totals.{total_of}
+use Rattle.builder_spec.proofs.FromBundle.CoverLaws.{each_token_is_covered}
+use Rattle.builder_spec.specs.Machine.declared.datum.Datum.{Datum}
+use Rattle.builder_spec.specs.EutxoTypes.declared.output.Output.{Output}
+use Rattle.builder_spec.specs.Roles.Sums.{sums_of}
+use Rattle.builder_spec.specs.Roles.Steps.{continuation, due_outputs}
+use Rattle.builder_spec.specs.Ledger.declared.look.Unspent.{Unspent}
 use Rattle.builder_spec.specs.Requests.{StepsRequest}
 use Rattle.builder_spec.specs.Causes.{is_much}
 use Rattle.builder_spec.specs.Holding.{sums, amount_in, wanted, least_lacking, AreBundles}

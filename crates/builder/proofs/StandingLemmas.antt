@@ -1,15 +1,15 @@
 -- The threads of parts, and that they stand.
 use Rattle.std.proofs.Common.{◌≡◌, ℕ, ◌+◌, ◌<◌, Bool, true, false, if◌then◌else◌, List, [], ◌∷◌, ◌++◌, length, drop, get_or, Option, Some, None, refl, sym, ◌∙◌, ap, subst, append_assoc}
 use Rattle.std.specs.Option.{option_map}
-use Rattle.collections.proofs.SameLaws.{same_by_decides}
-use Rattle.bundle.specs.contracts.bundle.Bundle as bundles
+use Rattle.contract.proofs.FromCollections.SameLaws.{same_by_decides}
+use Rattle.builder_spec.specs.Bundle.contracts.bundle.Bundle as bundles
 use Rattle.contract.specs.declared.input.Input.{Input}
-use Rattle.eutxo_types.specs.Digests.{datum_hash}
-use Rattle.eutxo_types.specs.Parts.{same_bytes, contract_in, ContractLock}
-use Rattle.roles.specs.Sums.{sums_of}
-use Rattle.roles.specs.Steps.{same_amounts}
-use Rattle.roles.specs.Terms.{terms_of}
-use Rattle.ledger.specs.declared.look.ThreadOutput.{ThreadOutput}
+use Rattle.builder_spec.specs.EutxoTypes.Digests.{datum_hash}
+use Rattle.builder_spec.specs.EutxoTypes.Parts.{same_bytes, contract_in, ContractLock}
+use Rattle.builder_spec.specs.Roles.Sums.{sums_of}
+use Rattle.builder_spec.specs.Roles.Steps.{same_amounts}
+use Rattle.builder_spec.specs.Roles.Terms.{terms_of}
+use Rattle.builder_spec.specs.Ledger.declared.look.ThreadOutput.{ThreadOutput}
 use Rattle.builder_spec.specs.Requests.{Part}
 use Rattle.builder_spec.specs.Steps.{Thread, Stepped, is_current, thread_in, thread_of, look_thread}
 use Rattle.builder_spec.specs.Parts.{and_stepped, stepped_in, has_clash, agreeing, threads_of}

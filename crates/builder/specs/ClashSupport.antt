@@ -2,8 +2,8 @@
 use Rattle.std.specs.Prelude.{◌≡◌, ℕ, if◌then◌else◌, List, Option, Some, option_copied}
 use Rattle.std.specs.Borrow.{Bor}
 use Rattle.std.specs.HashMap.{HashMap, get}
-use Rattle.eutxo_types.specs.Parts.{same_bytes}
-use Rattle.roles.specs.declared.published.Published.{Published}
+use Rattle.builder_spec.specs.EutxoTypes.Parts.{same_bytes}
+use Rattle.builder_spec.specs.Roles.declared.published.Published.{Published}
 
 -- what a map has under a script
 abbrev pub kept : {S : Type 0} → HashMap (List ℕ) (Bor Published) S → List ℕ → Option Published

@@ -1,7 +1,7 @@
 -- No reader needs this file: what is known of what a request spends, once nothing hinders it.
 use Rattle.std.specs.Prelude.{◌≡◌, true, List, is_none}
-use Rattle.bundle.specs.Bundles.{Amounts}
-use Rattle.ledger.specs.declared.look.Unspent.{Unspent}
+use Rattle.builder_spec.specs.Bundle.Bundles.{Amounts}
+use Rattle.builder_spec.specs.Ledger.declared.look.Unspent.{Unspent}
 use Rattle.builder_spec.specs.Requests.{StartRequest}
 use Rattle.builder_spec.specs.Holding.{sums, amount_in, least_lacking, AreBundles}
 use Rattle.builder_spec.specs.Starts.{accounts_of, start_front}

@@ -1,11 +1,11 @@
 -- No reader needs this file: what a step makes, by the outcome of its contract.
 use Rattle.std.specs.Prelude.{Bool, if◌then◌else◌, List, [], ◌∷◌, ◌++◌, map}
 use Rattle.contract.specs.declared.outcome.Outcome.{Outcome}
-use Rattle.nodes.specs.declared.cont.Cont.{Cont}
-use Rattle.machine.specs.declared.datum.Datum.{Datum}
-use Rattle.eutxo_types.specs.declared.output.Output.{Output}
-use Rattle.roles.specs.declared.published.Published.{Published}
-use Rattle.roles.specs.Steps.{continuation, due_outputs}
+use Rattle.builder_spec.specs.Nodes.declared.cont.Cont.{Cont}
+use Rattle.builder_spec.specs.Machine.declared.datum.Datum.{Datum}
+use Rattle.builder_spec.specs.EutxoTypes.declared.output.Output.{Output}
+use Rattle.builder_spec.specs.Roles.declared.published.Published.{Published}
+use Rattle.builder_spec.specs.Roles.Steps.{continuation, due_outputs}
 
 -- the datum from which the contract goes on, unless it is Close
 abbrev pub data_left : Bool → Outcome Cont → List Datum

@@ -2,15 +2,15 @@
 use Rattle.std.specs.Prelude.{◌≡◌, true, false, List, [], ◌∷◌, ◌++◌, map, is_none, Option, option_map, Ok}
 use Rattle.std.specs.FinMap.{entries}
 use Rattle.contract.specs.declared.outcome.Outcome.{Outcome}
-use Rattle.states.specs.States as states
-use Rattle.semantics.specs.Walk.{standing, answer_of}
-use Rattle.nodes.specs.declared.cont.Cont.{Cont}
-use Rattle.table.specs.Flat.{Has, a_cont, cont_tree, is_close}
-use Rattle.bundle.specs.Bundles.{AllPositive}
-use Rattle.machine.specs.declared.datum.Datum.{Datum}
-use Rattle.eutxo_types.specs.declared.output.Output.{Output}
-use Rattle.eutxo.specs.Faults.{first_of}
-use Rattle.roles.specs.Sums.{sums_of}
+use Rattle.contract.specs.States.States as states
+use Rattle.builder_spec.specs.Semantics.Walk.{standing, answer_of}
+use Rattle.builder_spec.specs.Nodes.declared.cont.Cont.{Cont}
+use Rattle.builder_spec.specs.Table.Flat.{Has, a_cont, cont_tree, is_close}
+use Rattle.builder_spec.specs.Bundle.Bundles.{AllPositive}
+use Rattle.builder_spec.specs.Machine.declared.datum.Datum.{Datum}
+use Rattle.builder_spec.specs.EutxoTypes.declared.output.Output.{Output}
+use Rattle.builder_spec.specs.Eutxo.Faults.{first_of}
+use Rattle.builder_spec.specs.Roles.Sums.{sums_of}
 use Rattle.builder_spec.specs.declared.fault.BuildFault.{BuildFault}
 use Rattle.builder_spec.specs.Requests.{Part, StepsRequest}
 use Rattle.builder_spec.specs.Causes.{signature_cause, funds_cause, repeat_cause, is_much}

@@ -2,7 +2,7 @@
 //! types.
 ghost use Rattle.std.specs.Prelude.{◌≡◌, ◌∷◌, [], IfOk, Ok};
 
-use collections::{Items, Memory};
+use contract::{Items, Memory};
 use std::alloc::Global;
 
 /// The first value and the second, or the second's refusal.

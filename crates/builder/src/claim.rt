@@ -1,7 +1,7 @@
 //! Claims of payouts.
 ghost use Rattle.std.specs.Prelude.{◌≡◌, [], ◌++◌, map, IfOk};
-ghost use Rattle.collections.specs.Answers.{Aside};
-ghost use Rattle.eutxo_types.specs.Fitting.{TxFits};
+ghost use Rattle.contract.specs.Collections.Answers.{Aside};
+ghost use Rattle.builder_spec.specs.EutxoTypes.Fitting.{TxFits};
 ghost use Rattle.builder_spec.specs.Holding.{sums, amount_in};
 ghost use Rattle.builder_spec.specs.Built.{build_answer};
 ghost use Rattle.builder_spec.specs.Laying.{by_key, by_claim, paid_to};
@@ -14,12 +14,9 @@ use crate::fitting::tx_of;
 use crate::inputs::put_keys;
 use crate::outputs::put_paid;
 use crate::payouts::{check_held, check_payouts, put_claims, tokens_awaited};
-use builder_spec::BuildFault;
+use builder_spec::{BuildFault, Output, Spend, Tx, Unspent};
 use coin_selection::{Amount, Shares, check_apart, check_signed, front_of, see_all, shares_within};
-use collections::{Items, Memory, Text};
-use contract::Interval;
-use eutxo_types::{Output, Spend, Tx};
-use ledger::Unspent;
+use contract::{Interval, Items, Memory, Text};
 use std::alloc::Global;
 use std::marker::Model;
 
@@ -36,7 +33,7 @@ struct ClaimAsked<'a> {
 
 impl<'a> Model for ClaimAsked<'a> {
     ghost use Rattle.std.specs.Coded.{codes};
-    ghost use Rattle.eutxo_types.specs.contracts.output.Output as outputs;
+    ghost use Rattle.builder_spec.specs.EutxoTypes.contracts.output.Output as outputs;
     ghost use Rattle.builder_spec.specs.Requests.{ClaimRequest, claim_request};
 
     ghost Value = { ClaimRequest };

@@ -1,12 +1,11 @@
 //! That what is built fits its spelling.
 ghost use Rattle.std.specs.Prelude.{◌≡◌, IfOk};
-ghost use Rattle.eutxo_types.specs.Fitting.{TxFits};
+ghost use Rattle.builder_spec.specs.EutxoTypes.Fitting.{TxFits};
 
 use crate::beside::beside;
 use crate::inputs::copies_of;
-use collections::{Items, Memory, Text};
-use contract::Interval;
-use eutxo_types::{Datum, Output, Spend, Tx, fits_spelling};
+use builder_spec::{Datum, Output, Spend, Tx, fits_spelling};
+use contract::{Interval, Items, Memory, Text};
 use std::alloc::Global;
 
 // The transaction itself, which fits its spelling.

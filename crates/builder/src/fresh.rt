@@ -2,11 +2,10 @@
 ghost use Rattle.std.specs.Prelude.{◌≡◌, IfOk, OnOk};
 ghost use Rattle.std.proofs.Math.Dec.{T};
 ghost use Rattle.std.specs.FinMap.{is_sorted, put};
-ghost use Rattle.names.specs.Orders.{account_cmp};
+ghost use Rattle.contract.specs.Names.Orders.{account_cmp};
 ghost use Rattle.builder_spec.specs.Starts.{fresh_state};
 
-use collections::{Entries, Memory};
-use contract::{Account, State};
+use contract::{Account, Entries, Memory, State};
 use std::alloc::Global;
 
 fn put_account(

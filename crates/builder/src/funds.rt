@@ -1,6 +1,5 @@
 //! What a request spends.
-use bundle::Bundle;
-use ledger::Unspent;
+use builder_spec::{Bundle, Unspent};
 use std::marker::Model;
 
 /// What is spent, once nothing hinders it: what all of it holds together, and the front of what is offered. Clauses
@@ -13,8 +12,8 @@ pub(crate) struct Funds<'a> {
 
 impl<'a> Model for Funds<'a> {
     ghost use Rattle.std.specs.Coded.{codes};
-    ghost use Rattle.bundle.specs.contracts.bundle.Bundle as bundles;
-    ghost use Rattle.eutxo_types.specs.contracts.output.Output as outputs;
+    ghost use Rattle.builder_spec.specs.Bundle.contracts.bundle.Bundle as bundles;
+    ghost use Rattle.builder_spec.specs.EutxoTypes.contracts.output.Output as outputs;
     ghost use Rattle.builder.specs.FundsSupport as spent;
 
     ghost Value = { spent.Funds };

@@ -2,11 +2,9 @@
 ghost use Rattle.std.specs.Prelude.{◌≡◌, ◌++◌, map, IfOk, OnOk};
 ghost use Rattle.builder_spec.specs.Laying.{by_key, by_step};
 
+use builder_spec::{Redeemer, Spend, Unspent};
 use coin_selection::OwnOutput;
-use collections::{Items, Memory, TryClone};
-use contract::Input;
-use eutxo_types::{Redeemer, Spend};
-use ledger::Unspent;
+use contract::{Input, Items, Memory, TryClone};
 use std::alloc::Global;
 
 fn by_key(unspent: &Unspent) -> Spend

@@ -20,9 +20,8 @@ mod step;
 mod steps;
 mod thread;
 
-pub use builder_spec::BuildFault;
+pub use builder_spec::{Ask, BuildFault, Look, PayoutLock, ThreadOutput, Unspent};
 pub use claim::build_claim;
-pub use ledger::{Ask, Look, PayoutLock, ThreadOutput, Unspent};
 pub use parts::{Part, resolve_parts};
 pub use start::build_start;
 pub use step::build_step;

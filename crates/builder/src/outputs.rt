@@ -1,22 +1,21 @@
 //! The outputs of a layout: those that are owed, where there is room for them, and the change.
 ghost use Rattle.std.specs.Prelude.{◌≡◌, [], ◌∷◌, ◌++◌, map, true, false, if◌then◌else◌, IfOk, OnOk};
 ghost use Rattle.std.specs.FinMap.{entries};
-ghost use Rattle.bundle.specs.Bundles.{covers, minus};
-ghost use Rattle.eutxo.specs.Faults.{is_empty};
-ghost use Rattle.roles.specs.Steps.{continuation};
-ghost use Rattle.roles.specs.Sums.{sums_of};
+ghost use Rattle.builder_spec.specs.Bundle.Bundles.{covers, minus};
+ghost use Rattle.builder_spec.specs.Eutxo.Faults.{is_empty};
+ghost use Rattle.builder_spec.specs.Roles.Steps.{continuation};
+ghost use Rattle.builder_spec.specs.Roles.Sums.{sums_of};
 ghost use Rattle.builder_spec.specs.Holding.{sums};
 ghost use Rattle.builder_spec.specs.Causes.{is_much};
 ghost use Rattle.builder_spec.specs.Laying.{paid_to};
 ghost use Rattle.builder.specs.OutputsSupport.{data_left, outcome_outputs};
 
 use crate::beside::beside;
-use bundle::{Bundle, BundleFault};
+use builder_spec::{
+    Bundle, BundleFault, Cont, Datum, Lock, Output, Published, continuation, put_due,
+};
 use coin_selection::{see_all, see_room, sum, sums_of};
-use collections::{Items, Memory, Text, TryClone};
-use contract::Outcome;
-use eutxo_types::{Cont, Datum, Lock, Output};
-use roles::{Published, continuation, put_due};
+use contract::{Items, Memory, Outcome, Text, TryClone};
 use std::alloc::{AllocError, Global};
 
 /// The output in which a contract goes on from a datum, with the sums of its accounts, none of which is too large for

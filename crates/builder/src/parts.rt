@@ -1,14 +1,10 @@
 //! Parts of steps in one transaction, and what their looks hold of what a transaction names.
 ghost use Rattle.std.specs.Prelude.{◌≡◌, pos, IfOk, option_copied};
-ghost use Rattle.eutxo.specs.Judgement.{found};
+ghost use Rattle.builder_spec.specs.Eutxo.Judgement.{found};
 ghost use Rattle.builder_spec.specs.Parts.{output_by_parts, script_by_parts, parts_moment};
 
-use collections::Memory;
-use contract::Input;
-use eutxo::{Resolved, Shared};
-use eutxo_types::{Output, OutputRef, Tx};
-use ledger::{Look, Resolves, resolve};
-use roles::Published;
+use builder_spec::{Look, Output, OutputRef, Published, Resolved, Resolves, Shared, Tx, resolve};
+use contract::{Input, Memory};
 use std::alloc::Global;
 use std::marker::Model;
 
@@ -25,7 +21,7 @@ pub struct Part<'a> {
 impl<'a> Model for Part<'a> {
     ghost use Rattle.std.specs.Coded.{codes};
     ghost use Rattle.contract.specs.contracts.input.Input as given;
-    ghost use Rattle.ledger.specs.contracts.look.Look as looks;
+    ghost use Rattle.builder_spec.specs.Ledger.contracts.look.Look as looks;
     ghost use Rattle.builder_spec.specs.Requests as requests;
 
     ghost Value = { requests.Part };

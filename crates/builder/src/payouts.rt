@@ -1,19 +1,16 @@
 //! Payouts that are claimed.
 ghost use Rattle.std.specs.Prelude.{◌≡◌, ◌++◌, not, IfOk, OnOk, map};
 ghost use Rattle.std.specs.List.{list_any};
-ghost use Rattle.eutxo_types.specs.Parts.{is_payout};
-ghost use Rattle.eutxo.specs.Faults.{is_empty};
+ghost use Rattle.builder_spec.specs.EutxoTypes.Parts.{is_payout};
+ghost use Rattle.builder_spec.specs.Eutxo.Faults.{is_empty};
 ghost use Rattle.builder_spec.specs.Holding.{amount_in, AreBundles};
 ghost use Rattle.builder_spec.specs.Laying.{by_claim};
 ghost use Rattle.builder_spec.specs.Claims.{awaited_token, tokens_awaited, payout_cause, unheld_cause};
 ghost use Rattle.coin_selection.specs.Answers.{AnswersCause};
 
-use builder_spec::BuildFault;
+use builder_spec::{BuildFault, Lock, Redeemer, Spend, Unspent};
 use coin_selection::{RoleToken, first_unheld};
-use collections::{Items, Memory, TryClone};
-use contract::Party;
-use eutxo_types::{Lock, Redeemer, Spend};
-use ledger::Unspent;
+use contract::{Items, Memory, Party, TryClone};
 use std::alloc::Global;
 
 fn any_other(payouts: &[Unspent]) -> bool

@@ -1,10 +1,10 @@
 //! Starts of a contract.
 ghost use Rattle.std.specs.Prelude.{◌≡◌, false, [], ◌∷◌, Some, if◌then◌else◌, IfOk};
-ghost use Rattle.collections.specs.Answers.{Aside};
-ghost use Rattle.names.specs.Equal.{ada};
-ghost use Rattle.eutxo_types.specs.Fitting.{TxFits};
-ghost use Rattle.roles.specs.Sums.{sums_of};
-ghost use Rattle.eutxo.specs.Faults.{is_empty};
+ghost use Rattle.contract.specs.Collections.Answers.{Aside};
+ghost use Rattle.contract.specs.Names.Equal.{ada};
+ghost use Rattle.builder_spec.specs.EutxoTypes.Fitting.{TxFits};
+ghost use Rattle.builder_spec.specs.Roles.Sums.{sums_of};
+ghost use Rattle.builder_spec.specs.Eutxo.Faults.{is_empty};
 ghost use Rattle.builder_spec.specs.declared.fault.BuildFault.TheVariants.{NoFunds};
 ghost use Rattle.builder_spec.specs.Holding.{amount_in, AreBundles};
 ghost use Rattle.builder_spec.specs.Causes.{funds_cause, is_much};
@@ -22,17 +22,12 @@ use crate::funds::Funds;
 use crate::inputs::key_inputs;
 use crate::outputs::{continuing_output, with_change};
 use crate::payouts::are_none;
-use builder_spec::BuildFault;
+use builder_spec::{BuildFault, Datum, Output, Published, Tx, Unspent};
 use coin_selection::{
     Amount, Shares, accounts_of, check_apart, check_funds, check_signed, see_all, see_room,
     shares_within, start_front,
 };
-use collections::{Bytes, Items, Memory, Text};
-use contract::{Interval, State};
-use eutxo_types::{Datum, Output, Tx};
-use ledger::Unspent;
-use names::Token;
-use roles::Published;
+use contract::{Bytes, Interval, Items, Memory, State, Text, Token};
 use std::alloc::Global;
 use std::marker::Model;
 
@@ -49,9 +44,9 @@ struct StartAsked<'a> {
 
 impl<'a> Model for StartAsked<'a> {
     ghost use Rattle.std.specs.Coded.{codes};
-    ghost use Rattle.states.specs.contracts.state.State as states;
-    ghost use Rattle.eutxo_types.specs.contracts.output.Output as outputs;
-    ghost use Rattle.roles.specs.contracts.published.Published as publications;
+    ghost use Rattle.contract.specs.States.contracts.state.State as states;
+    ghost use Rattle.builder_spec.specs.EutxoTypes.contracts.output.Output as outputs;
+    ghost use Rattle.builder_spec.specs.Roles.contracts.published.Published as publications;
     ghost use Rattle.builder_spec.specs.Requests.{StartRequest, start_request};
 
     ghost Value = { StartRequest };

@@ -1,18 +1,15 @@
 //! Steps of a thread.
 ghost use Rattle.std.specs.Prelude.{IfOk};
-ghost use Rattle.collections.specs.Answers.{Aside};
-ghost use Rattle.eutxo_types.specs.Fitting.{TxFits};
+ghost use Rattle.contract.specs.Collections.Answers.{Aside};
+ghost use Rattle.builder_spec.specs.EutxoTypes.Fitting.{TxFits};
 ghost use Rattle.builder_spec.specs.Built.{build_answer};
 ghost use Rattle.builder_spec.specs.Parts.{hinders_step, layout_step};
 ghost use Rattle.builder_spec.specs.Requests.{request};
 
 use crate::parts::Part;
 use crate::steps::build_steps;
-use builder_spec::BuildFault;
-use collections::Text;
-use contract::{Input, Interval};
-use eutxo_types::Tx;
-use ledger::{Look, Unspent};
+use builder_spec::{BuildFault, Look, Tx, Unspent};
+use contract::{Input, Interval, Text};
 use std::alloc::Global;
 
 /// Builds the transaction that steps the thread which a look shows, with these inputs of the contract, in an

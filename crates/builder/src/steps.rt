@@ -2,10 +2,10 @@
 ghost use Rattle.std.specs.Prelude.{◌≡◌, ◌++◌, ◌<◌, true, not, length, nat_lt, get_or, map};
 ghost use Rattle.std.specs.Prelude.{IfOk, OnOk, option_map, option_copied};
 ghost use Rattle.std.specs.List.{list_any};
-ghost use Rattle.collections.specs.Answers.{Aside};
-ghost use Rattle.semantics.specs.Walk.{answer_of};
-ghost use Rattle.bundle.specs.Bundles.{covers, minus};
-ghost use Rattle.eutxo_types.specs.Fitting.{TxFits};
+ghost use Rattle.contract.specs.Collections.Answers.{Aside};
+ghost use Rattle.builder_spec.specs.Semantics.Walk.{answer_of};
+ghost use Rattle.builder_spec.specs.Bundle.Bundles.{covers, minus};
+ghost use Rattle.builder_spec.specs.EutxoTypes.Fitting.{TxFits};
 ghost use Rattle.builder_spec.specs.Built.{build_answer};
 ghost use Rattle.builder_spec.specs.Holding.{sums, amount_in, AreBundles};
 ghost use Rattle.builder_spec.specs.Laying.{by_key, by_step, paid_to};
@@ -28,19 +28,15 @@ use crate::inputs::{by_step, put_keys};
 use crate::outputs::{put_block, with_change};
 use crate::parts::Part;
 use crate::thread::{ThreadAt, thread_of};
-use builder_spec::BuildFault;
-use bundle::Bundle;
+use builder_spec::{
+    BuildFault, Bundle, Cont, Datum, Output, Published, Spend, ThreadOutput, Tx, Unspent, compute,
+    money_is_kept, payments_are_natural, transactions_end_quiet,
+};
 use coin_selection::{
     Amount, OwnOutput, RoleToken, check_authorised, check_funds, check_owned_once, check_signed,
     front_of, owned_within, put_deposits, put_roles, see_all, see_room,
 };
-use collections::{Items, Memory, Same, Text, TryClone};
-use contract::{Input, Interval, Outcome, SemFault};
-use eutxo_types::{Cont, Datum, Output, Spend, Tx};
-use ledger::{ThreadOutput, Unspent};
-use machine::compute;
-use roles::Published;
-use semantics::{money_is_kept, payments_are_natural, transactions_end_quiet};
+use contract::{Input, Interval, Items, Memory, Outcome, Same, SemFault, Text, TryClone};
 use std::alloc::Global;
 use std::collections::HashMap;
 use std::marker::Model;
@@ -62,8 +58,8 @@ struct StepsAsked<'a> {
 
 impl<'a> Model for StepsAsked<'a> {
     ghost use Rattle.std.specs.Coded.{codes};
-    ghost use Rattle.eutxo_types.specs.contracts.output.Output as outputs;
-    ghost use Rattle.ledger.specs.contracts.look.Look as looks;
+    ghost use Rattle.builder_spec.specs.EutxoTypes.contracts.output.Output as outputs;
+    ghost use Rattle.builder_spec.specs.Ledger.contracts.look.Look as looks;
     ghost use Rattle.builder_spec.specs.Requests.{StepsRequest, steps_request};
 
     ghost Value = { StepsRequest };
@@ -82,8 +78,8 @@ struct SteppedAt<'a> {
 
 impl<'a> Model for SteppedAt<'a> {
     ghost use Rattle.std.specs.Coded.{codes};
-    ghost use Rattle.machine.specs.contracts.datum.Datum as datums;
-    ghost use Rattle.ledger.specs.contracts.look.ThreadOutput as threads;
+    ghost use Rattle.builder_spec.specs.Machine.contracts.datum.Datum as datums;
+    ghost use Rattle.builder_spec.specs.Ledger.contracts.look.ThreadOutput as threads;
     ghost use Rattle.contract.specs.contracts.input.Input as given;
     ghost use Rattle.builder_spec.specs.Steps.{Stepped};
 

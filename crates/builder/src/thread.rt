@@ -2,11 +2,9 @@
 ghost use Rattle.std.specs.Prelude.{◌≡◌, Some, IfOk};
 ghost use Rattle.builder_spec.specs.Steps.{is_current, thread_of, own_output};
 
+use builder_spec::{ContractLock, Datum, ThreadOutput, datum_hash, holds_sums};
 use coin_selection::OwnOutput;
-use collections::Memory;
-use eutxo_types::{ContractLock, Datum, datum_hash};
-use ledger::ThreadOutput;
-use roles::holds_sums;
+use contract::Memory;
 use std::alloc::Global;
 use std::marker::Model;
 
@@ -19,8 +17,8 @@ pub(crate) struct ThreadAt<'a> {
 
 impl<'a> Model for ThreadAt<'a> {
     ghost use Rattle.std.specs.Coded.{codes};
-    ghost use Rattle.machine.specs.contracts.datum.Datum as datums;
-    ghost use Rattle.ledger.specs.contracts.look.ThreadOutput as threads;
+    ghost use Rattle.builder_spec.specs.Machine.contracts.datum.Datum as datums;
+    ghost use Rattle.builder_spec.specs.Ledger.contracts.look.ThreadOutput as threads;
     ghost use Rattle.builder_spec.specs.Steps.{Thread};
 
     ghost Value = { Thread };

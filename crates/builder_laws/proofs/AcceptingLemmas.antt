@@ -3,21 +3,21 @@ use Rattle.std.proofs.Common.{◌≡◌, ℕ, ℤ, ◌≤ℤ◌, int_le, Bool, t
 use Rattle.std.proofs.lemmas.Int.{ints}
 use Rattle.std.specs.Prelude.{is_some, is_none, if◌then◌else◌}
 use Rattle.std.specs.List.{list_all, AllByRecursion}
-use Rattle.eutxo_types.specs.declared.fault.TxFault.TheVariants.{NotUnspent, IdInUse, OutsideInterval, UnknownScript}
-use Rattle.eutxo_types.specs.declared.output.Output.{Output}
-use Rattle.eutxo_types.specs.declared.output_ref.OutputRef.{OutputRef}
-use Rattle.eutxo_types.specs.declared.spend.Spend.{Spend}
-use Rattle.eutxo_types.specs.declared.tx.Tx.{Tx}
-use Rattle.eutxo_types.specs.Ids.{id_of}
-use Rattle.eutxo.specs.declared.resolved.Resolved.{Resolved}
-use Rattle.eutxo.specs.Found.{script_at, is_known, all_known, with_output, with_outputs, if_known, whole}
-use Rattle.eutxo.specs.Judgement.{Moment, not_unspent, id_in_use, outside_interval, is_unknown, unknown_script, outputs_found, found, judge}
-use Rattle.eutxo.specs.Laws.{FoundIsEnough}
-use Rattle.eutxo.specs.Local.{tx_fault, spent_fault, whole_fault, local}
-use Rattle.eutxo.specs.Faults.{or_else}
-use Rattle.roles.specs.declared.published.Published.{Published}
-use Rattle.ledger.specs.declared.look.Unspent.{Unspent}
-use Rattle.roles.specs.Steps.{marlowe}
+use Rattle.ledger_spec.specs.EutxoTypes.declared.fault.TxFault.TheVariants.{NotUnspent, IdInUse, OutsideInterval, UnknownScript}
+use Rattle.ledger_spec.specs.EutxoTypes.declared.output.Output.{Output}
+use Rattle.ledger_spec.specs.EutxoTypes.declared.output_ref.OutputRef.{OutputRef}
+use Rattle.ledger_spec.specs.EutxoTypes.declared.spend.Spend.{Spend}
+use Rattle.ledger_spec.specs.EutxoTypes.declared.tx.Tx.{Tx}
+use Rattle.ledger_spec.specs.EutxoTypes.Ids.{id_of}
+use Rattle.ledger_spec.specs.Eutxo.declared.resolved.Resolved.{Resolved}
+use Rattle.ledger_spec.specs.Eutxo.Found.{script_at, is_known, all_known, with_output, with_outputs, if_known, whole}
+use Rattle.ledger_spec.specs.Eutxo.Judgement.{Moment, not_unspent, id_in_use, outside_interval, is_unknown, unknown_script, outputs_found, found, judge}
+use Rattle.ledger_spec.specs.Eutxo.Laws.{FoundIsEnough}
+use Rattle.ledger_spec.specs.Eutxo.Local.{tx_fault, spent_fault, whole_fault, local}
+use Rattle.ledger_spec.specs.Eutxo.Faults.{or_else}
+use Rattle.ledger_spec.specs.Roles.declared.published.Published.{Published}
+use Rattle.ledger_spec.specs.Ledger.declared.look.Unspent.{Unspent}
+use Rattle.ledger_spec.specs.Roles.Steps.{marlowe}
 use Rattle.builder_laws.specs.Accepting.{contents, Passes}
 use Rattle.ledger_spec.specs.Open.{Admits}
 use Rattle.builder_laws.proofs.TestLemmas.{Nowhere, both, by_recursion, all_everywhere, no_fault, none_of, if_not}

@@ -2,15 +2,15 @@
 use Rattle.std.proofs.Common.{◌≡◌, ℕ, not, List, [], ◌∷◌, refl, ap, ◌∙◌, None, Result, Ok, Err}
 use Rattle.std.specs.List.{filter_map}
 use Rattle.contract.specs.declared.fault.SemFault.{SemFault}
-use Rattle.names.specs.declared.party.Party.{Party}
-use Rattle.names.specs.declared.party.Party.TheVariants.{Address, Role}
-use Rattle.semantics.specs.Walk.{Standing}
-use Rattle.eutxo_types.specs.declared.output.Output.{Output}
-use Rattle.eutxo_types.specs.declared.spend.Spend.{Spend}
-use Rattle.roles.specs.Steps.{holds_role, role_token, authorised}
-use Rattle.ledger.specs.declared.look.Unspent.{Unspent}
-use Rattle.builder_spec.specs.Holding.{holds_token}
-use Rattle.builder_spec.specs.Steps.{semantics_cause, token_of, may_act}
+use Rattle.contract.specs.Names.declared.party.Party.{Party}
+use Rattle.contract.specs.Names.declared.party.Party.TheVariants.{Address, Role}
+use Rattle.ledger_spec.specs.Semantics.Walk.{Standing}
+use Rattle.ledger_spec.specs.EutxoTypes.declared.output.Output.{Output}
+use Rattle.ledger_spec.specs.EutxoTypes.declared.spend.Spend.{Spend}
+use Rattle.ledger_spec.specs.Roles.Steps.{holds_role, role_token, authorised}
+use Rattle.ledger_spec.specs.Ledger.declared.look.Unspent.{Unspent}
+use Rattle.ledger_spec.specs.BuilderSpec.Holding.{holds_token}
+use Rattle.ledger_spec.specs.BuilderSpec.Steps.{semantics_cause, token_of, may_act}
 use Rattle.builder_laws.proofs.TestLemmas.{Nowhere, Everywhere, not_not}
 
 -- where all may act, the tokens of their roles are offered

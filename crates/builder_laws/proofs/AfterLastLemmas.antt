@@ -3,27 +3,27 @@ use Rattle.std.proofs.Common.{◌≡◌, ℕ, ◌<◌, ◌^◌, ℤ, pos, negsuc
 use Rattle.std.proofs.lemmas.Bool.Decides.{nat_tests}
 use Rattle.std.specs.Prelude.{if◌then◌else◌}
 use Rattle.std.specs.FinMap.{empty, entries}
-use Rattle.contract_bytes.specs.Numbers.{NumberFits}
-use Rattle.contract_bytes.specs.Names.{HoldingFits}
+use Rattle.ledger_spec.specs.ContractBytes.Numbers.{NumberFits}
+use Rattle.ledger_spec.specs.ContractBytes.Names.{HoldingFits}
 use Rattle.contract.specs.declared.fault.SemFault.{SemFault}
 use Rattle.contract.specs.declared.interval.Interval.{Interval}
-use Rattle.semantics.specs.Walk.{Standing, answer_of}
-use Rattle.semantics.specs.Computed.{computed}
-use Rattle.semantics.specs.Money.{paid_out}
-use Rattle.semantics.specs.Closing.{ClosesSo, ClosesAfterLast}
-use Rattle.bundle.specs.Bundles.{Amounts, amount_of, each, plus}
-use Rattle.eutxo_types.specs.Fitting.{AmountFits}
-use Rattle.eutxo.specs.Faults.{first_of}
-use Rattle.builder_spec.specs.declared.fault.BuildFault.{BuildFault}
-use Rattle.builder_spec.specs.declared.fault.BuildFault.TheVariants.{Semantics, TooMany}
-use Rattle.builder_spec.specs.Requests.{StepRequest}
-use Rattle.builder_spec.specs.Holding.{sums, amount_in}
-use Rattle.builder_spec.specs.Causes.{is_much}
-use Rattle.builder_spec.specs.Steps.{Thread, thread_terms, step_walk, own_output}
-use Rattle.builder_spec.proofs.OnePartLaws.{hinders_thread, hinders_on, hinders_step_on}
-use Rattle.builder_spec.proofs.HoldingLaws.{entries-empty, most}
-use Rattle.builder_spec.proofs.FundsLaws.{amount_of-sums_in}
-use Rattle.builder_spec.specs.Closings.{closing, Closes}
+use Rattle.ledger_spec.specs.Semantics.Walk.{Standing, answer_of}
+use Rattle.ledger_spec.specs.Semantics.Computed.{computed}
+use Rattle.ledger_spec.specs.Semantics.Money.{paid_out}
+use Rattle.ledger_spec.specs.Semantics.Closing.{ClosesSo, ClosesAfterLast}
+use Rattle.ledger_spec.specs.Bundle.Bundles.{Amounts, amount_of, each, plus}
+use Rattle.ledger_spec.specs.EutxoTypes.Fitting.{AmountFits}
+use Rattle.ledger_spec.specs.Eutxo.Faults.{first_of}
+use Rattle.ledger_spec.specs.BuilderSpec.declared.fault.BuildFault.{BuildFault}
+use Rattle.ledger_spec.specs.BuilderSpec.declared.fault.BuildFault.TheVariants.{Semantics, TooMany}
+use Rattle.ledger_spec.specs.BuilderSpec.Requests.{StepRequest}
+use Rattle.ledger_spec.specs.BuilderSpec.Holding.{sums, amount_in}
+use Rattle.ledger_spec.specs.BuilderSpec.Causes.{is_much}
+use Rattle.ledger_spec.specs.BuilderSpec.Steps.{Thread, thread_terms, step_walk, own_output}
+use Rattle.ledger_spec.proofs.FromBuilderSpec.OnePartLaws.{hinders_thread, hinders_on, hinders_step_on}
+use Rattle.ledger_spec.proofs.FromBuilderSpec.HoldingLaws.{entries-empty, most}
+use Rattle.ledger_spec.proofs.FromBuilderSpec.FundsLaws.{amount_of-sums_in}
+use Rattle.ledger_spec.specs.BuilderSpec.Closings.{closing, Closes}
 use Rattle.builder_laws.specs.AfterLast.{AnyoneCloses, NoThreadHinders}
 use Rattle.builder_laws.proofs.TestLemmas.{each_so, by_recursion, not_any}
 use Rattle.builder_laws.proofs.LookThreadLemmas.{IsThread, thread_so}

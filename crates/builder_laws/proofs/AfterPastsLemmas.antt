@@ -2,26 +2,26 @@
 use Rattle.std.proofs.Common.{◌≡◌, ℕ, zero, suc, ℤ, Bool, true, false, ◌||◌, List, [], ◌∷◌, refl, sym, ap, ◌∙◌, append-nil, Option, Some, None}
 use Rattle.std.specs.List.{slice_get, list_any, AllByRecursion}
 use Rattle.std.specs.Cmp.Lexicographic.{bytes_decides}
-use Rattle.eutxo_types.specs.declared.fault.TxFault.TheVariants.{NoInputs}
-use Rattle.eutxo_types.specs.declared.output.Output.{Output}
-use Rattle.eutxo_types.specs.declared.spend.Spend.{Spend}
-use Rattle.eutxo_types.specs.declared.tx.Tx.{Tx}
-use Rattle.eutxo_types.specs.Fitting.{TxFits}
-use Rattle.eutxo_types.specs.Ids.{id_of}
-use Rattle.eutxo_types.specs.Spelling.{tx_bytes}
-use Rattle.contract_bytes.specs.Unambiguous.{BeginsNoOther}
-use Rattle.eutxo.specs.Judgement.{judge}
-use Rattle.eutxo.specs.Laws.{FoundIsEnough}
-use Rattle.eutxo_types.specs.Parts.{same_ref}
-use Rattle.eutxo.specs.Faults.{is_empty}
-use Rattle.eutxo.specs.Rules.{no_inputs, too_many, repeated_input}
-use Rattle.roles.specs.declared.published.Published.{Published}
-use Rattle.ledger.specs.declared.look.Unspent.{Unspent}
-use Rattle.ledger_laws.specs.Past as past
-use Rattle.ledger_laws.specs.Past.{Past, has_id, is_spent, is_used, unspent_at}
-use Rattle.ledger_laws.specs.Sound.{moment}
-use Rattle.roles.specs.Steps.{marlowe}
-use Rattle.ledger_laws.proofs.ReferenceLaws.{same_ref-refl, unspent_so}
+use Rattle.ledger_spec.specs.EutxoTypes.declared.fault.TxFault.TheVariants.{NoInputs}
+use Rattle.ledger_spec.specs.EutxoTypes.declared.output.Output.{Output}
+use Rattle.ledger_spec.specs.EutxoTypes.declared.spend.Spend.{Spend}
+use Rattle.ledger_spec.specs.EutxoTypes.declared.tx.Tx.{Tx}
+use Rattle.ledger_spec.specs.EutxoTypes.Fitting.{TxFits}
+use Rattle.ledger_spec.specs.EutxoTypes.Ids.{id_of}
+use Rattle.ledger_spec.specs.EutxoTypes.Spelling.{tx_bytes}
+use Rattle.ledger_spec.specs.ContractBytes.Unambiguous.{BeginsNoOther}
+use Rattle.ledger_spec.specs.Eutxo.Judgement.{judge}
+use Rattle.ledger_spec.specs.Eutxo.Laws.{FoundIsEnough}
+use Rattle.ledger_spec.specs.EutxoTypes.Parts.{same_ref}
+use Rattle.ledger_spec.specs.Eutxo.Faults.{is_empty}
+use Rattle.ledger_spec.specs.Eutxo.Rules.{no_inputs, too_many, repeated_input}
+use Rattle.ledger_spec.specs.Roles.declared.published.Published.{Published}
+use Rattle.ledger_spec.specs.Ledger.declared.look.Unspent.{Unspent}
+use Rattle.ledger_spec.specs.LedgerLaws.Past as past
+use Rattle.ledger_spec.specs.LedgerLaws.Past.{Past, has_id, is_spent, is_used, unspent_at}
+use Rattle.ledger_spec.specs.LedgerLaws.Sound.{moment}
+use Rattle.ledger_spec.specs.Roles.Steps.{marlowe}
+use Rattle.ledger_spec.proofs.FromLedgerLaws.ReferenceLaws.{same_ref-refl, unspent_so}
 use Rattle.ledger_spec.specs.Open.{IsAlone, IsOpen}
 use Rattle.builder_laws.specs.AfterPasts.{Fit, BytesTellApart}
 use Rattle.builder_laws.proofs.TestLemmas.{by_recursion, each_at, unless}

@@ -4,18 +4,18 @@ use Rattle.std.proofs.Math.Seq.{take-append_seam, drop-append_seam, drop-append-
 use Rattle.std.proofs.lemmas.Bool.{eq-eqb}
 use Rattle.std.specs.Prelude.{if◌then◌else◌}
 use Rattle.std.specs.List.{slice_get, AllByRecursion}
-use Rattle.machine.specs.declared.datum.Datum.{Datum}
-use Rattle.eutxo_types.specs.declared.fault.TxFault.TheVariants.{StrayContract}
-use Rattle.eutxo_types.specs.declared.output.Output.{Output}
-use Rattle.eutxo_types.specs.declared.output_ref.OutputRef.{OutputRef}
-use Rattle.eutxo_types.specs.declared.tx.Tx.{Tx}
-use Rattle.eutxo_types.specs.Parts.{is_contract, contract_count, made_datums, outputs_from}
-use Rattle.eutxo.specs.declared.validator.StepAnswer.{StepAnswer}
-use Rattle.eutxo.specs.declared.validator.StepAnswer.TheVariants.{Takes}
-use Rattle.eutxo.specs.Faults.{or_else}
-use Rattle.eutxo.specs.Blocks.{Block, size, is_place, is_continuing, faults_in, lowest, stray_contract, block_fault}
-use Rattle.roles.specs.Steps.{continuation, first_unpaid, goes_on_in, payments_from}
-use Rattle.roles.proofs.OwedLaws.{goes_on_there, all_paid}
+use Rattle.ledger_spec.specs.Machine.declared.datum.Datum.{Datum}
+use Rattle.ledger_spec.specs.EutxoTypes.declared.fault.TxFault.TheVariants.{StrayContract}
+use Rattle.ledger_spec.specs.EutxoTypes.declared.output.Output.{Output}
+use Rattle.ledger_spec.specs.EutxoTypes.declared.output_ref.OutputRef.{OutputRef}
+use Rattle.ledger_spec.specs.EutxoTypes.declared.tx.Tx.{Tx}
+use Rattle.ledger_spec.specs.EutxoTypes.Parts.{is_contract, contract_count, made_datums, outputs_from}
+use Rattle.ledger_spec.specs.Eutxo.declared.validator.StepAnswer.{StepAnswer}
+use Rattle.ledger_spec.specs.Eutxo.declared.validator.StepAnswer.TheVariants.{Takes}
+use Rattle.ledger_spec.specs.Eutxo.Faults.{or_else}
+use Rattle.ledger_spec.specs.Eutxo.Blocks.{Block, size, is_place, is_continuing, faults_in, lowest, stray_contract, block_fault}
+use Rattle.ledger_spec.specs.Roles.Steps.{continuation, first_unpaid, goes_on_in, payments_from}
+use Rattle.ledger_spec.proofs.FromRoles.OwedLaws.{goes_on_there, all_paid}
 use Rattle.builder_laws.proofs.TestLemmas.{each_at, no_place, mapped}
 use Rattle.builder_laws.proofs.OutputLemmas.{made_at}
 

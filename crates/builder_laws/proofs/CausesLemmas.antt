@@ -2,17 +2,17 @@
 use Rattle.std.proofs.Common.{◌≡◌, ℕ, nat_lt, Bool, true, false, List, [], ◌∷◌, ◌++◌, length, refl, sym, ap, ◌∙◌, subst, append_assoc, Option, Some, None}
 use Rattle.std.specs.Prelude.{if◌then◌else◌, is_none}
 use Rattle.std.specs.List.{list_all, AllByRecursion}
-use Rattle.eutxo_types.specs.declared.output.Output.{Output}
-use Rattle.eutxo_types.specs.declared.redeemer.Redeemer.{Redeemer}
-use Rattle.eutxo_types.specs.declared.redeemer.Redeemer.TheVariants as with
-use Rattle.eutxo_types.specs.declared.spend.Spend.{Spend}
-use Rattle.eutxo.specs.Found.{is_known}
-use Rattle.eutxo.specs.Faults.{first_of}
-use Rattle.roles.specs.declared.published.Published.{Published}
-use Rattle.ledger.specs.declared.look.Unspent.{Unspent}
-use Rattle.builder_spec.specs.declared.fault.BuildFault.TheVariants.{NotSigned, TooMany, Repeated}
-use Rattle.builder_spec.specs.Holding.{sums, amount_in}
-use Rattle.builder_spec.specs.Causes.{is_signed, signature_cause, is_much, is_over, limit_cause, has_repeat, repeat_cause}
+use Rattle.ledger_spec.specs.EutxoTypes.declared.output.Output.{Output}
+use Rattle.ledger_spec.specs.EutxoTypes.declared.redeemer.Redeemer.{Redeemer}
+use Rattle.ledger_spec.specs.EutxoTypes.declared.redeemer.Redeemer.TheVariants as with
+use Rattle.ledger_spec.specs.EutxoTypes.declared.spend.Spend.{Spend}
+use Rattle.ledger_spec.specs.Eutxo.Found.{is_known}
+use Rattle.ledger_spec.specs.Eutxo.Faults.{first_of}
+use Rattle.ledger_spec.specs.Roles.declared.published.Published.{Published}
+use Rattle.ledger_spec.specs.Ledger.declared.look.Unspent.{Unspent}
+use Rattle.ledger_spec.specs.BuilderSpec.declared.fault.BuildFault.TheVariants.{NotSigned, TooMany, Repeated}
+use Rattle.ledger_spec.specs.BuilderSpec.Holding.{sums, amount_in}
+use Rattle.ledger_spec.specs.BuilderSpec.Causes.{is_signed, signature_cause, is_much, is_over, limit_cause, has_repeat, repeat_cause}
 use Rattle.builder_laws.proofs.TestLemmas.{Everywhere, neither, each-append, each_front, each_so, all_everywhere, everywhere_all, unless, only_if}
 use Rattle.builder_laws.proofs.NamedLemmas.{repeat_front}
 use Rattle.builder_laws.proofs.PairLemmas.{paired, pairs, names, map-both, AreKeyed, IsKeyed, keyed}

@@ -2,27 +2,27 @@
 use Rattle.std.proofs.Common.{◌≡◌, ℤ, pos, ◌+ℤ◌, ◌-ℤ◌, ◌≤ℤ◌, List, [], ◌∷◌, ◌++◌, sym, ap, ◌∙◌, subst, None, arith}
 use Rattle.std.proofs.lemmas.Int.{ints}
 use Rattle.std.specs.FinMap.{entries}
-use Rattle.names.specs.declared.token.Token.{Token}
-use Rattle.states.specs.States as states
-use Rattle.states.specs.States.{AllPositive}
-use Rattle.semantics.specs.Laws.{EndsQuiet}
-use Rattle.semantics.specs.Money.{deposited, MoneyIsKept}
-use Rattle.semantics.specs.Naturals.{PaymentsAreNatural}
-use Rattle.bundle.specs.Bundles.{Amounts, amount_of}
-use Rattle.bundle.specs.Totals.{total_of}
-use Rattle.bundle.proofs.AmountLaws.{rests_are_of_each_token}
-use Rattle.eutxo_types.specs.declared.output.Output.{Output}
-use Rattle.ledger.specs.declared.look.Unspent.{Unspent}
-use Rattle.roles.specs.Sums.{sums_of}
-use Rattle.builder_spec.specs.Requests.{StepRequest}
-use Rattle.builder_spec.specs.Holding.{sums, amount_in, AreBundles}
-use Rattle.builder_spec.specs.Laying.{rest}
-use Rattle.builder_spec.specs.Steps.{Thread, step_walk, step_outputs_of, step_front, step_spent, step_outputs}
-use Rattle.builder_spec.proofs.OnePartLaws.{hinders_thread, hinders_on, hinders_step_on}
-use Rattle.builder_spec.specs.Starts.{accounts_of, fresh_state, start_front, start_output}
-use Rattle.builder_spec.proofs.FundsLaws.{funded, all_covered, wanted-accounts, amount_of-sums_in}
-use Rattle.builder_spec.proofs.HoldingLaws.{amount_of-sums}
-use Rattle.builder_spec.specs.Change.{StepChangeIsTheRest, StartChangeIsTheRest}
+use Rattle.contract.specs.Names.declared.token.Token.{Token}
+use Rattle.contract.specs.States.States as states
+use Rattle.contract.specs.States.States.{AllPositive}
+use Rattle.ledger_spec.specs.Semantics.Laws.{EndsQuiet}
+use Rattle.ledger_spec.specs.Semantics.Money.{deposited, MoneyIsKept}
+use Rattle.ledger_spec.specs.Semantics.Naturals.{PaymentsAreNatural}
+use Rattle.ledger_spec.specs.Bundle.Bundles.{Amounts, amount_of}
+use Rattle.ledger_spec.specs.Bundle.Totals.{total_of}
+use Rattle.ledger_spec.proofs.FromBundle.AmountLaws.{rests_are_of_each_token}
+use Rattle.ledger_spec.specs.EutxoTypes.declared.output.Output.{Output}
+use Rattle.ledger_spec.specs.Ledger.declared.look.Unspent.{Unspent}
+use Rattle.ledger_spec.specs.Roles.Sums.{sums_of}
+use Rattle.ledger_spec.specs.BuilderSpec.Requests.{StepRequest}
+use Rattle.ledger_spec.specs.BuilderSpec.Holding.{sums, amount_in, AreBundles}
+use Rattle.ledger_spec.specs.BuilderSpec.Laying.{rest}
+use Rattle.ledger_spec.specs.BuilderSpec.Steps.{Thread, step_walk, step_outputs_of, step_front, step_spent, step_outputs}
+use Rattle.ledger_spec.proofs.FromBuilderSpec.OnePartLaws.{hinders_thread, hinders_on, hinders_step_on}
+use Rattle.ledger_spec.specs.BuilderSpec.Starts.{accounts_of, fresh_state, start_front, start_output}
+use Rattle.ledger_spec.proofs.FromBuilderSpec.FundsLaws.{funded, all_covered, wanted-accounts, amount_of-sums_in}
+use Rattle.ledger_spec.proofs.FromBuilderSpec.HoldingLaws.{amount_of-sums}
+use Rattle.ledger_spec.specs.BuilderSpec.Change.{StepChangeIsTheRest, StartChangeIsTheRest}
 use Rattle.builder_laws.proofs.LookThreadLemmas.{IsThread, thread_so}
 use Rattle.builder_laws.proofs.StepLemmas as stepping
 use Rattle.builder_laws.proofs.StartLemmas as starting

@@ -2,34 +2,34 @@
 use Rattle.std.proofs.Common.{◌≡◌, ℕ, nat_lt, ◌+ℤ◌, Bool, true, false, not, ◌||◌, List, [], ◌∷◌, ◌++◌, map, refl, sym, ap, ◌∙◌, Option, None}
 use Rattle.std.specs.Prelude.{is_none, count_by}
 use Rattle.std.specs.List.{list_all, list_any, cons_option, AllByRecursion}
-use Rattle.names.specs.declared.party.Party.TheVariants.{Role}
-use Rattle.names.specs.declared.token.Token.{Token}
-use Rattle.bundle.specs.Totals.{total_of}
-use Rattle.eutxo_types.specs.declared.lock.Lock.{Lock}
-use Rattle.eutxo_types.specs.declared.lock.Lock.TheVariants.{Key, Payout, Contract}
-use Rattle.eutxo_types.specs.declared.output.Output.{Output}
-use Rattle.eutxo_types.specs.declared.redeemer.Redeemer.TheVariants as with
-use Rattle.eutxo_types.specs.declared.spend.Spend.{Spend}
-use Rattle.eutxo_types.specs.declared.tx.Tx.{Tx}
-use Rattle.eutxo.specs.Found.{script_at, is_known, all_known}
-use Rattle.eutxo.specs.Laws.{FoundIsEnough}
-use Rattle.eutxo.specs.Local.{tx_fault, spent_fault}
-use Rattle.eutxo_types.specs.Parts.{is_contract, contract_in, is_key, is_payout}
-use Rattle.eutxo.specs.Faults.{is_empty}
-use Rattle.eutxo.specs.Blocks.{step_fault}
-use Rattle.eutxo.specs.Rules.{lacks_role, opens, steps_of, wrong_datum}
-use Rattle.roles.specs.declared.published.Published.{Published}
-use Rattle.roles.specs.Steps.{holds_role, role_token, marlowe}
-use Rattle.ledger.specs.declared.look.Unspent.{Unspent}
-use Rattle.builder_spec.specs.declared.fault.BuildFault.TheVariants.{NoThread, NotAuthorised}
-use Rattle.builder_spec.specs.Requests.{ClaimRequest}
-use Rattle.builder_spec.specs.Holding.{sums, amount_in, holds_token, least_lacking}
-use Rattle.builder_spec.specs.Fronts.{suffices}
-use Rattle.builder_spec.specs.Causes.{signature_cause, limit_cause, repeat_cause}
-use Rattle.builder_spec.specs.Laying.{spend_with, by_key, paid_to}
-use Rattle.builder_spec.specs.Claims.{awaited_token, tokens_awaited, payout_cause, role_cause, claim_front, hinders_claim, layout_claim}
-use Rattle.builder_spec.proofs.HoldingLaws.{amount_of-sums, total_of-append}
-use Rattle.builder_spec.proofs.FrontsLaws.{shortest_passes}
+use Rattle.contract.specs.Names.declared.party.Party.TheVariants.{Role}
+use Rattle.contract.specs.Names.declared.token.Token.{Token}
+use Rattle.ledger_spec.specs.Bundle.Totals.{total_of}
+use Rattle.ledger_spec.specs.EutxoTypes.declared.lock.Lock.{Lock}
+use Rattle.ledger_spec.specs.EutxoTypes.declared.lock.Lock.TheVariants.{Key, Payout, Contract}
+use Rattle.ledger_spec.specs.EutxoTypes.declared.output.Output.{Output}
+use Rattle.ledger_spec.specs.EutxoTypes.declared.redeemer.Redeemer.TheVariants as with
+use Rattle.ledger_spec.specs.EutxoTypes.declared.spend.Spend.{Spend}
+use Rattle.ledger_spec.specs.EutxoTypes.declared.tx.Tx.{Tx}
+use Rattle.ledger_spec.specs.Eutxo.Found.{script_at, is_known, all_known}
+use Rattle.ledger_spec.specs.Eutxo.Laws.{FoundIsEnough}
+use Rattle.ledger_spec.specs.Eutxo.Local.{tx_fault, spent_fault}
+use Rattle.ledger_spec.specs.EutxoTypes.Parts.{is_contract, contract_in, is_key, is_payout}
+use Rattle.ledger_spec.specs.Eutxo.Faults.{is_empty}
+use Rattle.ledger_spec.specs.Eutxo.Blocks.{step_fault}
+use Rattle.ledger_spec.specs.Eutxo.Rules.{lacks_role, opens, steps_of, wrong_datum}
+use Rattle.ledger_spec.specs.Roles.declared.published.Published.{Published}
+use Rattle.ledger_spec.specs.Roles.Steps.{holds_role, role_token, marlowe}
+use Rattle.ledger_spec.specs.Ledger.declared.look.Unspent.{Unspent}
+use Rattle.ledger_spec.specs.BuilderSpec.declared.fault.BuildFault.TheVariants.{NoThread, NotAuthorised}
+use Rattle.ledger_spec.specs.BuilderSpec.Requests.{ClaimRequest}
+use Rattle.ledger_spec.specs.BuilderSpec.Holding.{sums, amount_in, holds_token, least_lacking}
+use Rattle.ledger_spec.specs.BuilderSpec.Fronts.{suffices}
+use Rattle.ledger_spec.specs.BuilderSpec.Causes.{signature_cause, limit_cause, repeat_cause}
+use Rattle.ledger_spec.specs.BuilderSpec.Laying.{spend_with, by_key, paid_to}
+use Rattle.ledger_spec.specs.BuilderSpec.Claims.{awaited_token, tokens_awaited, payout_cause, role_cause, claim_front, hinders_claim, layout_claim}
+use Rattle.ledger_spec.proofs.FromBuilderSpec.HoldingLaws.{amount_of-sums, total_of-append}
+use Rattle.ledger_spec.proofs.FromBuilderSpec.FrontsLaws.{shortest_passes}
 use Rattle.builder_laws.specs.Accepting.{ClaimsPass, ClaimsAreAccepted}
 use Rattle.builder_laws.specs.AfterPasts.{BytesTellApart, ClaimsAreAcceptedAfter}
 use Rattle.builder_laws.proofs.TestLemmas.{Everywhere, both, together, neither, not_not, each-append, each_so, any_nowhere, all_everywhere, everywhere_all, none_counted, found_nowhere, each_none, unless, unmapped}

@@ -3,19 +3,19 @@ use Rattle.std.proofs.Common.{◌≡◌, ℕ, ◌+◌, false, List, [], ◌∷�
 use Rattle.std.specs.Prelude.{if◌then◌else◌}
 use Rattle.std.specs.List.{AllByRecursion}
 use Rattle.std.specs.Cmp.Lexicographic.{bytes_decides}
-use Rattle.machine.specs.declared.datum.Datum.{Datum}
-use Rattle.eutxo_types.specs.declared.fault.TxFault.TheVariants.{WrongDatum}
-use Rattle.eutxo_types.specs.declared.output.Output.{Output}
-use Rattle.eutxo_types.specs.declared.redeemer.Redeemer.{Redeemer}
-use Rattle.eutxo_types.specs.declared.redeemer.Redeemer.TheVariants as with
-use Rattle.eutxo_types.specs.declared.spend.Spend.{Spend}
-use Rattle.eutxo_types.specs.declared.tx.Tx.{Tx}
-use Rattle.eutxo_types.specs.Digests.{datum_hash}
-use Rattle.eutxo_types.specs.Parts.{is_contract, contract_in}
-use Rattle.eutxo.specs.Rules.{digest_in, digests_in, digests_held, first_unlike, wrong_datum}
-use Rattle.roles.specs.Steps.{continuation}
-use Rattle.ledger_laws.proofs.PartLaws.{no_contract_in}
-use Rattle.ledger.specs.declared.look.Unspent.{Unspent}
+use Rattle.ledger_spec.specs.Machine.declared.datum.Datum.{Datum}
+use Rattle.ledger_spec.specs.EutxoTypes.declared.fault.TxFault.TheVariants.{WrongDatum}
+use Rattle.ledger_spec.specs.EutxoTypes.declared.output.Output.{Output}
+use Rattle.ledger_spec.specs.EutxoTypes.declared.redeemer.Redeemer.{Redeemer}
+use Rattle.ledger_spec.specs.EutxoTypes.declared.redeemer.Redeemer.TheVariants as with
+use Rattle.ledger_spec.specs.EutxoTypes.declared.spend.Spend.{Spend}
+use Rattle.ledger_spec.specs.EutxoTypes.declared.tx.Tx.{Tx}
+use Rattle.ledger_spec.specs.EutxoTypes.Digests.{datum_hash}
+use Rattle.ledger_spec.specs.EutxoTypes.Parts.{is_contract, contract_in}
+use Rattle.ledger_spec.specs.Eutxo.Rules.{digest_in, digests_in, digests_held, first_unlike, wrong_datum}
+use Rattle.ledger_spec.specs.Roles.Steps.{continuation}
+use Rattle.ledger_spec.proofs.FromLedgerLaws.PartLaws.{no_contract_in}
+use Rattle.ledger_spec.specs.Ledger.declared.look.Unspent.{Unspent}
 use Rattle.builder_laws.proofs.TestLemmas.{mapped}
 use Rattle.builder_laws.proofs.PairLemmas.{paired, pairs, AreKeyed}
 

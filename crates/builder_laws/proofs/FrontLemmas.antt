@@ -1,7 +1,7 @@
 -- The shortest front.
 use Rattle.std.proofs.Common.{◌≡◌, Bool, true, false, List, [], ◌∷◌, ◌++◌, refl, ap}
 use Rattle.std.specs.Prelude.{if◌then◌else◌}
-use Rattle.builder_spec.specs.Fronts.{shortest}
+use Rattle.ledger_spec.specs.BuilderSpec.Fronts.{shortest}
 
 -- what it is followed by
 pub shortest_rest : {A : Type 0} (test : List A → Bool) (xs : List A) → (later : List A) × (xs ≡ shortest test xs ++ later)

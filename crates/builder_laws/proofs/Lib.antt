@@ -20,3 +20,4 @@ pub mod StartLemmas
 pub mod ShownThreadsLemmas
 pub mod ChangeLemmas
 pub mod AfterLastLemmas
+pub mod FromLedgerSpec

@@ -2,18 +2,18 @@
 use Rattle.std.proofs.Common.{◌≡◌, Bool, true, false, ◌&&◌, refl, sym, ap, ◌∙◌, subst, Option, Some, None}
 use Rattle.std.specs.Prelude.{if◌then◌else◌}
 use Rattle.std.specs.Cmp.Lexicographic.{bytes_decides}
-use Rattle.collections.proofs.SameLaws.{same_by_decides}
-use Rattle.bundle.specs.contracts.bundle.Bundle as bundles
-use Rattle.eutxo_types.specs.declared.lock.Lock.TheVariants.{Contract}
-use Rattle.eutxo_types.specs.Digests.{datum_hash}
-use Rattle.eutxo_types.specs.Parts.{same_bytes, ContractLock, contract_in}
-use Rattle.roles.specs.Sums.{sums_of}
-use Rattle.roles.specs.Terms.{terms_of}
-use Rattle.roles.specs.Steps.{same_amounts}
-use Rattle.ledger.specs.declared.look.Look.{Look}
-use Rattle.ledger.specs.declared.look.ThreadOutput.{ThreadOutput}
-use Rattle.builder_spec.specs.Steps.{Thread, thread_terms, is_current, thread_in, thread_of, look_thread}
-use Rattle.ledger_laws.proofs.PartLaws.{lock_so}
+use Rattle.contract.proofs.FromCollections.SameLaws.{same_by_decides}
+use Rattle.ledger_spec.specs.Bundle.contracts.bundle.Bundle as bundles
+use Rattle.ledger_spec.specs.EutxoTypes.declared.lock.Lock.TheVariants.{Contract}
+use Rattle.ledger_spec.specs.EutxoTypes.Digests.{datum_hash}
+use Rattle.ledger_spec.specs.EutxoTypes.Parts.{same_bytes, ContractLock, contract_in}
+use Rattle.ledger_spec.specs.Roles.Sums.{sums_of}
+use Rattle.ledger_spec.specs.Roles.Terms.{terms_of}
+use Rattle.ledger_spec.specs.Roles.Steps.{same_amounts}
+use Rattle.ledger_spec.specs.Ledger.declared.look.Look.{Look}
+use Rattle.ledger_spec.specs.Ledger.declared.look.ThreadOutput.{ThreadOutput}
+use Rattle.ledger_spec.specs.BuilderSpec.Steps.{Thread, thread_terms, is_current, thread_in, thread_of, look_thread}
+use Rattle.ledger_spec.proofs.FromLedgerLaws.PartLaws.{lock_so}
 use Rattle.builder_laws.proofs.TestLemmas.{both}
 
 -- it has the lock of what is published, with the datum's digest, stands at a number of the table, and holds the sums of its accounts

@@ -1,13 +1,13 @@
 -- References that no input names twice.
 use Rattle.std.proofs.Common.{◌≡◌, ℕ, ◌+◌, Bool, true, false, cond, List, [], ◌∷◌, ◌++◌, map, length, take, refl, sym, ap, ◌∙◌, append_assoc, Option, Some, None, arith}
 use Rattle.std.specs.List.{list_any}
-use Rattle.eutxo_types.specs.declared.output_ref.OutputRef.{OutputRef}
-use Rattle.eutxo_types.specs.declared.spend.Spend.{Spend}
-use Rattle.eutxo_types.specs.Parts.{same_ref}
-use Rattle.eutxo.specs.Faults.{first_index}
-use Rattle.eutxo.specs.Rules.{is_repeated}
-use Rattle.builder_spec.specs.Causes.{has_repeat}
-use Rattle.ledger_laws.proofs.ReferenceLaws.{same_ref_so, same_ref-refl}
+use Rattle.ledger_spec.specs.EutxoTypes.declared.output_ref.OutputRef.{OutputRef}
+use Rattle.ledger_spec.specs.EutxoTypes.declared.spend.Spend.{Spend}
+use Rattle.ledger_spec.specs.EutxoTypes.Parts.{same_ref}
+use Rattle.ledger_spec.specs.Eutxo.Faults.{first_index}
+use Rattle.ledger_spec.specs.Eutxo.Rules.{is_repeated}
+use Rattle.ledger_spec.specs.BuilderSpec.Causes.{has_repeat}
+use Rattle.ledger_spec.proofs.FromLedgerLaws.ReferenceLaws.{same_ref_so, same_ref-refl}
 use Rattle.builder_laws.proofs.TestLemmas.{neither, none_of_two}
 
 turned_if : (a b : OutputRef) (v : Bool) → same_ref b a ≡ v → same_ref a b ≡ false → v ≡ false

@@ -3,25 +3,25 @@ use Rattle.std.proofs.Common.{◌≡◌, ℕ, ◌+◌, Bool, true, false, List, 
 use Rattle.std.specs.Prelude.{if◌then◌else◌}
 use Rattle.std.specs.List.{slice_get, AllByRecursion}
 use Rattle.std.specs.FinMap.{entries}
-use Rattle.names.specs.declared.party.Party.{Party}
-use Rattle.names.specs.declared.party.Party.TheVariants.{Address, Role}
+use Rattle.contract.specs.Names.declared.party.Party.{Party}
+use Rattle.contract.specs.Names.declared.party.Party.TheVariants.{Address, Role}
 use Rattle.contract.specs.declared.payment.Payment.{Payment}
-use Rattle.bundle.specs.Bundles.{Amounts}
-use Rattle.machine.specs.declared.datum.Datum.{Datum}
-use Rattle.eutxo_types.specs.declared.fault.TxFault.TheVariants.{WrongStart}
-use Rattle.eutxo_types.specs.declared.lock.Lock.{Lock}
-use Rattle.eutxo_types.specs.declared.lock.Lock.TheVariants.{Key, Payout, Contract}
-use Rattle.eutxo_types.specs.declared.output.Output.{Output}
-use Rattle.eutxo_types.specs.declared.tx.Tx.{Tx}
-use Rattle.eutxo_types.specs.Digests.{datum_hash}
-use Rattle.eutxo_types.specs.Parts.{is_contract, ContractLock, contract_in, contract_of, contract_count, made_datums, with_datum, contract_at}
-use Rattle.eutxo.specs.Faults.{is_empty}
-use Rattle.eutxo.specs.Rules.{starts_wrong, wrong_start}
-use Rattle.roles.specs.declared.published.Published.{Published}
-use Rattle.roles.specs.Steps.{lock_for, continuation, due_to, and_owed_output, due_outputs, marlowe}
-use Rattle.roles.specs.Owed.{standing_at}
-use Rattle.ledger_laws.proofs.PartLaws.{no_contract_in}
-use Rattle.builder_spec.specs.Laying.{paid_to}
+use Rattle.ledger_spec.specs.Bundle.Bundles.{Amounts}
+use Rattle.ledger_spec.specs.Machine.declared.datum.Datum.{Datum}
+use Rattle.ledger_spec.specs.EutxoTypes.declared.fault.TxFault.TheVariants.{WrongStart}
+use Rattle.ledger_spec.specs.EutxoTypes.declared.lock.Lock.{Lock}
+use Rattle.ledger_spec.specs.EutxoTypes.declared.lock.Lock.TheVariants.{Key, Payout, Contract}
+use Rattle.ledger_spec.specs.EutxoTypes.declared.output.Output.{Output}
+use Rattle.ledger_spec.specs.EutxoTypes.declared.tx.Tx.{Tx}
+use Rattle.ledger_spec.specs.EutxoTypes.Digests.{datum_hash}
+use Rattle.ledger_spec.specs.EutxoTypes.Parts.{is_contract, ContractLock, contract_in, contract_of, contract_count, made_datums, with_datum, contract_at}
+use Rattle.ledger_spec.specs.Eutxo.Faults.{is_empty}
+use Rattle.ledger_spec.specs.Eutxo.Rules.{starts_wrong, wrong_start}
+use Rattle.ledger_spec.specs.Roles.declared.published.Published.{Published}
+use Rattle.ledger_spec.specs.Roles.Steps.{lock_for, continuation, due_to, and_owed_output, due_outputs, marlowe}
+use Rattle.ledger_spec.specs.Roles.Owed.{standing_at}
+use Rattle.ledger_spec.proofs.FromLedgerLaws.PartLaws.{no_contract_in}
+use Rattle.ledger_spec.specs.BuilderSpec.Laying.{paid_to}
 use Rattle.builder_laws.proofs.TestLemmas.{each_at, no_place, mapped}
 
 -- ---- locks

@@ -4,26 +4,26 @@ use Rattle.std.specs.Prelude.{int_lt, ◌&&◌, pos}
 use Rattle.std.specs.List.{AllByRecursion}
 use Rattle.std.specs.Option.{option_map}
 use Rattle.contract.specs.declared.interval.Interval.{Interval}
-use Rattle.names.specs.declared.token.Token.{Token}
-use Rattle.bundle.specs.Bundles.{amount_of}
-use Rattle.bundle.specs.Totals.{total_of}
-use Rattle.machine.specs.declared.datum.Datum.{Datum}
-use Rattle.eutxo_types.specs.declared.lock.Lock.{Lock}
-use Rattle.eutxo_types.specs.declared.lock.Lock.TheVariants.{Key, Payout, Contract}
-use Rattle.eutxo_types.specs.declared.output.Output.{Output}
-use Rattle.eutxo_types.specs.declared.output_ref.OutputRef.{OutputRef}
-use Rattle.eutxo_types.specs.declared.redeemer.Redeemer.{Redeemer}
-use Rattle.eutxo_types.specs.declared.redeemer.Redeemer.TheVariants as with
-use Rattle.eutxo_types.specs.declared.spend.Spend.{Spend}
-use Rattle.eutxo_types.specs.declared.tx.Tx.{Tx}
-use Rattle.eutxo.specs.Found.{with_outputs}
-use Rattle.eutxo_types.specs.Parts.{contract_in, is_key, is_step, step_count}
-use Rattle.eutxo.specs.Rules.{has_signed, or_step, steps_of}
-use Rattle.roles.specs.Steps.{role_token, holds_role}
-use Rattle.ledger.specs.declared.look.Unspent.{Unspent}
-use Rattle.builder_spec.specs.Causes.{is_signed}
-use Rattle.builder_spec.specs.Holding.{amount_in, holds_token}
-use Rattle.builder_spec.specs.Laying.{spend_with, by_key}
+use Rattle.contract.specs.Names.declared.token.Token.{Token}
+use Rattle.ledger_spec.specs.Bundle.Bundles.{amount_of}
+use Rattle.ledger_spec.specs.Bundle.Totals.{total_of}
+use Rattle.ledger_spec.specs.Machine.declared.datum.Datum.{Datum}
+use Rattle.ledger_spec.specs.EutxoTypes.declared.lock.Lock.{Lock}
+use Rattle.ledger_spec.specs.EutxoTypes.declared.lock.Lock.TheVariants.{Key, Payout, Contract}
+use Rattle.ledger_spec.specs.EutxoTypes.declared.output.Output.{Output}
+use Rattle.ledger_spec.specs.EutxoTypes.declared.output_ref.OutputRef.{OutputRef}
+use Rattle.ledger_spec.specs.EutxoTypes.declared.redeemer.Redeemer.{Redeemer}
+use Rattle.ledger_spec.specs.EutxoTypes.declared.redeemer.Redeemer.TheVariants as with
+use Rattle.ledger_spec.specs.EutxoTypes.declared.spend.Spend.{Spend}
+use Rattle.ledger_spec.specs.EutxoTypes.declared.tx.Tx.{Tx}
+use Rattle.ledger_spec.specs.Eutxo.Found.{with_outputs}
+use Rattle.ledger_spec.specs.EutxoTypes.Parts.{contract_in, is_key, is_step, step_count}
+use Rattle.ledger_spec.specs.Eutxo.Rules.{has_signed, or_step, steps_of}
+use Rattle.ledger_spec.specs.Roles.Steps.{role_token, holds_role}
+use Rattle.ledger_spec.specs.Ledger.declared.look.Unspent.{Unspent}
+use Rattle.ledger_spec.specs.BuilderSpec.Causes.{is_signed}
+use Rattle.ledger_spec.specs.BuilderSpec.Holding.{amount_in, holds_token}
+use Rattle.ledger_spec.specs.BuilderSpec.Laying.{spend_with, by_key}
 use Rattle.builder_laws.specs.Accepting.{contents}
 use Rattle.builder_laws.proofs.TestLemmas.{Nowhere, each-append, none_counted}
 use Rattle.builder_laws.proofs.NamedLemmas.{refs}

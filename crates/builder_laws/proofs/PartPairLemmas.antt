@@ -3,23 +3,23 @@ use Rattle.std.proofs.Common.{◌≡◌, ℕ, suc, ◌+ℤ◌, Bool, false, ◌|
 use Rattle.std.specs.Prelude.{int_lt, ◌&&◌, pos, count_by}
 use Rattle.std.specs.List.{AllByRecursion}
 use Rattle.std.specs.Option.{option_map}
-use Rattle.names.specs.declared.token.Token.{Token}
-use Rattle.bundle.specs.Bundles.{amount_of}
-use Rattle.bundle.specs.Totals.{total_of}
-use Rattle.machine.specs.declared.datum.Datum.{Datum}
-use Rattle.eutxo_types.specs.declared.output.Output.{Output}
-use Rattle.eutxo_types.specs.declared.redeemer.Redeemer.TheVariants as with
-use Rattle.eutxo_types.specs.declared.spend.Spend.{Spend}
-use Rattle.eutxo_types.specs.Digests.{datum_hash}
-use Rattle.eutxo_types.specs.Parts.{is_contract, is_key, is_step, step_count, contract_in}
-use Rattle.eutxo.specs.Found.{with_outputs}
-use Rattle.eutxo.specs.Rules.{digest_in, digests_in, Step, or_step, steps_of}
-use Rattle.roles.specs.Steps.{role_token, holds_role}
-use Rattle.ledger.specs.declared.look.Unspent.{Unspent}
-use Rattle.builder_spec.specs.Holding.{amount_in, holds_token}
-use Rattle.builder_spec.specs.Laying.{by_key, by_step}
-use Rattle.builder_spec.specs.Steps.{Stepped, own_output}
-use Rattle.builder_spec.specs.Parts.{own_outputs}
+use Rattle.contract.specs.Names.declared.token.Token.{Token}
+use Rattle.ledger_spec.specs.Bundle.Bundles.{amount_of}
+use Rattle.ledger_spec.specs.Bundle.Totals.{total_of}
+use Rattle.ledger_spec.specs.Machine.declared.datum.Datum.{Datum}
+use Rattle.ledger_spec.specs.EutxoTypes.declared.output.Output.{Output}
+use Rattle.ledger_spec.specs.EutxoTypes.declared.redeemer.Redeemer.TheVariants as with
+use Rattle.ledger_spec.specs.EutxoTypes.declared.spend.Spend.{Spend}
+use Rattle.ledger_spec.specs.EutxoTypes.Digests.{datum_hash}
+use Rattle.ledger_spec.specs.EutxoTypes.Parts.{is_contract, is_key, is_step, step_count, contract_in}
+use Rattle.ledger_spec.specs.Eutxo.Found.{with_outputs}
+use Rattle.ledger_spec.specs.Eutxo.Rules.{digest_in, digests_in, Step, or_step, steps_of}
+use Rattle.ledger_spec.specs.Roles.Steps.{role_token, holds_role}
+use Rattle.ledger_spec.specs.Ledger.declared.look.Unspent.{Unspent}
+use Rattle.ledger_spec.specs.BuilderSpec.Holding.{amount_in, holds_token}
+use Rattle.ledger_spec.specs.BuilderSpec.Laying.{by_key, by_step}
+use Rattle.ledger_spec.specs.BuilderSpec.Steps.{Stepped, own_output}
+use Rattle.ledger_spec.specs.BuilderSpec.Parts.{own_outputs}
 use Rattle.builder_laws.specs.Accepting.{contents}
 use Rattle.builder_laws.proofs.TestLemmas.{Nowhere, none_counted, one_more}
 use Rattle.builder_laws.proofs.NamedLemmas.{refs}

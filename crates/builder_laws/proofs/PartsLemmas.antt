@@ -7,37 +7,37 @@ use Rattle.std.proofs.lemmas.List.Sums.{sum_by-append}
 use Rattle.std.proofs.lemmas.Grind.{flat_map-append}
 use Rattle.contract.specs.declared.fault.SemFault.{SemFault}
 use Rattle.contract.specs.declared.fault.SemFault.TheVariants.{NoMatch}
-use Rattle.semantics.specs.Walk.{Standing, Walk, answer_of}
-use Rattle.table.specs.Flat.{is_close}
-use Rattle.machine.specs.declared.datum.Datum.{Datum}
-use Rattle.eutxo_types.specs.declared.output.Output.{Output}
-use Rattle.eutxo_types.specs.declared.redeemer.Redeemer.TheVariants as with
-use Rattle.eutxo_types.specs.declared.spend.Spend.{Spend}
-use Rattle.eutxo_types.specs.declared.tx.Tx.{Tx}
-use Rattle.eutxo_types.specs.Digests.{datum_hash}
-use Rattle.eutxo_types.specs.Parts.{is_contract, made_datums, contract_count}
-use Rattle.eutxo.specs.declared.step_fault.StepFault.TheVariants as faults
-use Rattle.eutxo.specs.declared.validator.StepAnswer.TheVariants.{Refused, Takes}
-use Rattle.eutxo.specs.Asked.{Stepping}
-use Rattle.eutxo.specs.Blocks.{size, answer_by, step_asked, and_blocks, blocks, block_fault, step_fault}
-use Rattle.eutxo.specs.Found.{script_at, is_known, all_known}
-use Rattle.eutxo.specs.Laws.{FoundIsEnough}
-use Rattle.eutxo.specs.Local.{tx_fault, spent_fault}
-use Rattle.eutxo.specs.Faults.{is_empty}
-use Rattle.eutxo.specs.Rules.{has_too_many, lacks_signer, opens, lacks_role, digests_in, Step, steps_of, wrong_datum}
-use Rattle.roles.specs.declared.published.Published.{Published}
-use Rattle.roles.specs.Steps.{holds_role, actor, authorised, continuation, due_outputs, next_datum, by_answer, marlowe}
-use Rattle.roles.specs.Steps as roles
-use Rattle.ledger.specs.declared.look.Unspent.{Unspent}
-use Rattle.builder_spec.specs.declared.fault.BuildFault.TheVariants.{NotAuthorised, NoFunds, TooMany}
-use Rattle.builder_spec.specs.Requests.{Part, StepsRequest}
-use Rattle.builder_spec.specs.Holding.{holds_token, least_lacking}
-use Rattle.builder_spec.specs.Fronts.{suffices}
-use Rattle.builder_spec.specs.Causes.{signature_cause, funds_cause, limit_cause, has_repeat, repeat_cause}
-use Rattle.builder_spec.specs.Laying.{by_key, paid_to, rest}
-use Rattle.builder_spec.specs.Steps.{Thread, Stepped, thread_terms, look_thread, semantics_cause, roles_of, may_act, authority_cause, step_outputs_of, next_data_of}
-use Rattle.builder_spec.specs.Parts.{and_stepped, stepped_in, has_clash, agreeing, threads_of, part_walk, all_roles, all_deposits, own_outputs, parts_front, parts_spent, ArePublished, parts_semantics_cause, parts_authority_cause, parts_limit_cause, hinders_threads, hinders_parts, part_outputs, parts_outputs, next_part_data, layout_threads, layout_parts}
-use Rattle.builder_spec.proofs.SufficesLaws.{front_suffices}
+use Rattle.ledger_spec.specs.Semantics.Walk.{Standing, Walk, answer_of}
+use Rattle.ledger_spec.specs.Table.Flat.{is_close}
+use Rattle.ledger_spec.specs.Machine.declared.datum.Datum.{Datum}
+use Rattle.ledger_spec.specs.EutxoTypes.declared.output.Output.{Output}
+use Rattle.ledger_spec.specs.EutxoTypes.declared.redeemer.Redeemer.TheVariants as with
+use Rattle.ledger_spec.specs.EutxoTypes.declared.spend.Spend.{Spend}
+use Rattle.ledger_spec.specs.EutxoTypes.declared.tx.Tx.{Tx}
+use Rattle.ledger_spec.specs.EutxoTypes.Digests.{datum_hash}
+use Rattle.ledger_spec.specs.EutxoTypes.Parts.{is_contract, made_datums, contract_count}
+use Rattle.ledger_spec.specs.Eutxo.declared.step_fault.StepFault.TheVariants as faults
+use Rattle.ledger_spec.specs.Eutxo.declared.validator.StepAnswer.TheVariants.{Refused, Takes}
+use Rattle.ledger_spec.specs.Eutxo.Asked.{Stepping}
+use Rattle.ledger_spec.specs.Eutxo.Blocks.{size, answer_by, step_asked, and_blocks, blocks, block_fault, step_fault}
+use Rattle.ledger_spec.specs.Eutxo.Found.{script_at, is_known, all_known}
+use Rattle.ledger_spec.specs.Eutxo.Laws.{FoundIsEnough}
+use Rattle.ledger_spec.specs.Eutxo.Local.{tx_fault, spent_fault}
+use Rattle.ledger_spec.specs.Eutxo.Faults.{is_empty}
+use Rattle.ledger_spec.specs.Eutxo.Rules.{has_too_many, lacks_signer, opens, lacks_role, digests_in, Step, steps_of, wrong_datum}
+use Rattle.ledger_spec.specs.Roles.declared.published.Published.{Published}
+use Rattle.ledger_spec.specs.Roles.Steps.{holds_role, actor, authorised, continuation, due_outputs, next_datum, by_answer, marlowe}
+use Rattle.ledger_spec.specs.Roles.Steps as roles
+use Rattle.ledger_spec.specs.Ledger.declared.look.Unspent.{Unspent}
+use Rattle.ledger_spec.specs.BuilderSpec.declared.fault.BuildFault.TheVariants.{NotAuthorised, NoFunds, TooMany}
+use Rattle.ledger_spec.specs.BuilderSpec.Requests.{Part, StepsRequest}
+use Rattle.ledger_spec.specs.BuilderSpec.Holding.{holds_token, least_lacking}
+use Rattle.ledger_spec.specs.BuilderSpec.Fronts.{suffices}
+use Rattle.ledger_spec.specs.BuilderSpec.Causes.{signature_cause, funds_cause, limit_cause, has_repeat, repeat_cause}
+use Rattle.ledger_spec.specs.BuilderSpec.Laying.{by_key, paid_to, rest}
+use Rattle.ledger_spec.specs.BuilderSpec.Steps.{Thread, Stepped, thread_terms, look_thread, semantics_cause, roles_of, may_act, authority_cause, step_outputs_of, next_data_of}
+use Rattle.ledger_spec.specs.BuilderSpec.Parts.{and_stepped, stepped_in, has_clash, agreeing, threads_of, part_walk, all_roles, all_deposits, own_outputs, parts_front, parts_spent, ArePublished, parts_semantics_cause, parts_authority_cause, parts_limit_cause, hinders_threads, hinders_parts, part_outputs, parts_outputs, next_part_data, layout_threads, layout_parts}
+use Rattle.ledger_spec.proofs.FromBuilderSpec.SufficesLaws.{front_suffices}
 use Rattle.builder_laws.specs.Accepting.{PartsPass, PartsAreAccepted}
 use Rattle.builder_laws.specs.AfterPasts.{BytesTellApart, PartsAreAcceptedAfter}
 use Rattle.builder_laws.proofs.TestLemmas.{Nowhere, Everywhere, both, together, neither, each-append, each_front, each_back, each_so, by_recursion, any_nowhere, all_everywhere, everywhere_all, none_counted, one_more, not_found, found_nowhere, each_none, each_mapped, none_of, if_not, mapped, unmapped}

@@ -2,20 +2,20 @@
 use Rattle.std.proofs.Common.{◌≡◌, true, ◌&&◌, sym, ap, ◌∙◌, subst, Option, Some, None}
 use Rattle.std.specs.Prelude.{if◌then◌else◌}
 use Rattle.std.specs.Cmp.Lexicographic.{bytes_decides}
-use Rattle.collections.proofs.SameLaws.{same_by_decides}
-use Rattle.bundle.specs.contracts.bundle.Bundle as bundles
-use Rattle.machine.specs.declared.datum.Datum.{Datum}
-use Rattle.eutxo_types.specs.Digests.{datum_hash}
-use Rattle.eutxo_types.specs.Parts.{same_bytes, is_contract, ContractLock, Instance, lock_of}
-use Rattle.eutxo.specs.Laws.{FoundIsEnough}
-use Rattle.roles.specs.Sums.{sums_of}
-use Rattle.roles.specs.Steps.{same_amounts, marlowe}
-use Rattle.roles.specs.Terms.{terms_of}
-use Rattle.builder_spec.specs.Steps.{Thread, is_current, thread_in, thread_of}
-use Rattle.ledger_laws.specs.Laws.{ContractsAreFunded, ContractsAreOfTables}
-use Rattle.ledger_laws.specs.Threads.{IsMade}
-use Rattle.ledger_laws.proofs.MadeLaws.{made_once}
-use Rattle.ledger_laws.proofs.PartLaws.{is_contract_so}
+use Rattle.contract.proofs.FromCollections.SameLaws.{same_by_decides}
+use Rattle.ledger_spec.specs.Bundle.contracts.bundle.Bundle as bundles
+use Rattle.ledger_spec.specs.Machine.declared.datum.Datum.{Datum}
+use Rattle.ledger_spec.specs.EutxoTypes.Digests.{datum_hash}
+use Rattle.ledger_spec.specs.EutxoTypes.Parts.{same_bytes, is_contract, ContractLock, Instance, lock_of}
+use Rattle.ledger_spec.specs.Eutxo.Laws.{FoundIsEnough}
+use Rattle.ledger_spec.specs.Roles.Sums.{sums_of}
+use Rattle.ledger_spec.specs.Roles.Steps.{same_amounts, marlowe}
+use Rattle.ledger_spec.specs.Roles.Terms.{terms_of}
+use Rattle.ledger_spec.specs.BuilderSpec.Steps.{Thread, is_current, thread_in, thread_of}
+use Rattle.ledger_spec.specs.LedgerLaws.Laws.{ContractsAreFunded, ContractsAreOfTables}
+use Rattle.ledger_spec.specs.LedgerLaws.Threads.{IsMade}
+use Rattle.ledger_spec.proofs.FromLedgerLaws.MadeLaws.{made_once}
+use Rattle.ledger_spec.proofs.FromLedgerLaws.PartLaws.{is_contract_so}
 use Rattle.builder_laws.specs.ShownThreads.{ShownThreadsAreCurrent}
 use Rattle.builder_laws.proofs.TestLemmas.{together}
 

@@ -4,28 +4,28 @@ use Rattle.std.specs.Prelude.{count_by}
 use Rattle.std.specs.List.{AllByRecursion, list_any}
 use Rattle.std.proofs.lemmas.List.{length-map}
 use Rattle.contract.specs.declared.interval.Interval.{Interval}
-use Rattle.names.specs.declared.token.Token.{Token}
-use Rattle.bundle.specs.Totals.{total_of}
-use Rattle.machine.specs.declared.datum.Datum.{Datum}
-use Rattle.eutxo_types.specs.declared.fault.TxFault.TheVariants.{NoInputs, TooMany, RepeatedInput, NotSigned, TooManyContracts, WrongRedeemer, RoleMissing}
-use Rattle.eutxo_types.specs.declared.lock.Lock.{Lock}
-use Rattle.eutxo_types.specs.declared.lock.Lock.TheVariants.{Key, Payout, Contract}
-use Rattle.eutxo_types.specs.declared.output.Output.{Output}
-use Rattle.eutxo_types.specs.declared.redeemer.Redeemer.{Redeemer}
-use Rattle.eutxo_types.specs.declared.redeemer.Redeemer.TheVariants as with
-use Rattle.eutxo_types.specs.declared.spend.Spend.{Spend}
-use Rattle.eutxo_types.specs.declared.tx.Tx.{Tx}
-use Rattle.eutxo.specs.Local.{tx_fault, spent_fault, spent_rules}
-use Rattle.eutxo_types.specs.Parts.{inputs_of, is_contract, is_key}
-use Rattle.eutxo.specs.Faults.{is_empty}
-use Rattle.eutxo.specs.Blocks.{step_fault, step_fault_unless}
-use Rattle.eutxo.specs.Rules.{no_inputs, too_many, has_too_many, repeated_input, lacks_signer, opens, lacks_role, steps_of, wrong_datum}
-use Rattle.roles.specs.declared.published.Published.{Published}
-use Rattle.roles.specs.Steps.{holds_role, marlowe}
-use Rattle.ledger.specs.declared.look.Unspent.{Unspent}
-use Rattle.builder_spec.specs.Causes.{has_repeat}
-use Rattle.builder_spec.specs.Holding.{amount_in}
-use Rattle.builder_spec.specs.Laying.{spend_with, by_key}
+use Rattle.contract.specs.Names.declared.token.Token.{Token}
+use Rattle.ledger_spec.specs.Bundle.Totals.{total_of}
+use Rattle.ledger_spec.specs.Machine.declared.datum.Datum.{Datum}
+use Rattle.ledger_spec.specs.EutxoTypes.declared.fault.TxFault.TheVariants.{NoInputs, TooMany, RepeatedInput, NotSigned, TooManyContracts, WrongRedeemer, RoleMissing}
+use Rattle.ledger_spec.specs.EutxoTypes.declared.lock.Lock.{Lock}
+use Rattle.ledger_spec.specs.EutxoTypes.declared.lock.Lock.TheVariants.{Key, Payout, Contract}
+use Rattle.ledger_spec.specs.EutxoTypes.declared.output.Output.{Output}
+use Rattle.ledger_spec.specs.EutxoTypes.declared.redeemer.Redeemer.{Redeemer}
+use Rattle.ledger_spec.specs.EutxoTypes.declared.redeemer.Redeemer.TheVariants as with
+use Rattle.ledger_spec.specs.EutxoTypes.declared.spend.Spend.{Spend}
+use Rattle.ledger_spec.specs.EutxoTypes.declared.tx.Tx.{Tx}
+use Rattle.ledger_spec.specs.Eutxo.Local.{tx_fault, spent_fault, spent_rules}
+use Rattle.ledger_spec.specs.EutxoTypes.Parts.{inputs_of, is_contract, is_key}
+use Rattle.ledger_spec.specs.Eutxo.Faults.{is_empty}
+use Rattle.ledger_spec.specs.Eutxo.Blocks.{step_fault, step_fault_unless}
+use Rattle.ledger_spec.specs.Eutxo.Rules.{no_inputs, too_many, has_too_many, repeated_input, lacks_signer, opens, lacks_role, steps_of, wrong_datum}
+use Rattle.ledger_spec.specs.Roles.declared.published.Published.{Published}
+use Rattle.ledger_spec.specs.Roles.Steps.{holds_role, marlowe}
+use Rattle.ledger_spec.specs.Ledger.declared.look.Unspent.{Unspent}
+use Rattle.ledger_spec.specs.BuilderSpec.Causes.{has_repeat}
+use Rattle.ledger_spec.specs.BuilderSpec.Holding.{amount_in}
+use Rattle.ledger_spec.specs.BuilderSpec.Laying.{spend_with, by_key}
 use Rattle.builder_laws.proofs.TestLemmas.{Nowhere, each-append, each_so, not_any, none_of_two, none_of, no_fault, if_not, mapped}
 use Rattle.builder_laws.proofs.NamedLemmas.{refs, fresh}
 use Rattle.builder_laws.proofs.PairLemmas.{laid, paired, pairs, names, all_named, AreKeyed, IsKeyed, nowhere_keys, nowhere_paired, total_pairs}

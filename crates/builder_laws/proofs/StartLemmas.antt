@@ -5,33 +5,33 @@ use Rattle.std.specs.List.{slice_get, list_all, AllByRecursion}
 use Rattle.std.proofs.lemmas.Bool.{eq-eqb}
 use Rattle.std.specs.FinMap.{entries, empty, entries-from_sorted}
 use Rattle.std.specs.declared.cmp.Ordering.{Ordering}
-use Rattle.collections.proofs.Maps.{no_entries}
-use Rattle.names.specs.Equal.{ada}
-use Rattle.names.specs.Orders.{bytes_cmp, choice_id_cmp}
-use Rattle.eutxo_types.specs.declared.output.Output.{Output}
-use Rattle.eutxo_types.specs.declared.redeemer.Redeemer.TheVariants as with
-use Rattle.eutxo_types.specs.declared.spend.Spend.{Spend}
-use Rattle.eutxo_types.specs.declared.tx.Tx.{Tx}
-use Rattle.eutxo.specs.Found.{script_at, is_known, all_known}
-use Rattle.eutxo.specs.Laws.{FoundIsEnough}
-use Rattle.eutxo.specs.Local.{tx_fault, spent_fault}
-use Rattle.eutxo_types.specs.Digests.{datum_hash}
-use Rattle.eutxo_types.specs.Parts.{is_contract, made_datums, contract_at}
-use Rattle.eutxo.specs.Faults.{is_empty}
-use Rattle.eutxo.specs.Blocks.{step_fault}
-use Rattle.eutxo.specs.Rules.{starts_wrong, starts_wrong_at, steps_of, wrong_datum}
-use Rattle.roles.specs.declared.published.Published.{Published}
-use Rattle.roles.specs.Sums.{sums_of}
-use Rattle.roles.specs.Steps.{same_cont, is_fresh, same_amounts, starts_from, marlowe}
-use Rattle.roles.proofs.OwedLaws.{same_amounts_itself}
-use Rattle.ledger.specs.declared.look.Unspent.{Unspent}
-use Rattle.builder_spec.specs.declared.fault.BuildFault.TheVariants.{NoFunds}
-use Rattle.builder_spec.specs.Requests.{StartRequest}
-use Rattle.builder_spec.specs.Holding.{least_lacking}
-use Rattle.builder_spec.specs.Causes.{signature_cause, funds_cause, limit_cause, repeat_cause}
-use Rattle.builder_spec.specs.Laying.{by_key, paid_to, rest}
-use Rattle.builder_spec.specs.Starts.{fresh_state, accounts_of, covers_accounts, start_front, start_funds_cause, hinders_start, start_datum, start_output, layout_start}
-use Rattle.builder_spec.proofs.FrontsLaws.{shortest_passes}
+use Rattle.contract.proofs.FromCollections.Maps.{no_entries}
+use Rattle.contract.specs.Names.Equal.{ada}
+use Rattle.contract.specs.Names.Orders.{bytes_cmp, choice_id_cmp}
+use Rattle.ledger_spec.specs.EutxoTypes.declared.output.Output.{Output}
+use Rattle.ledger_spec.specs.EutxoTypes.declared.redeemer.Redeemer.TheVariants as with
+use Rattle.ledger_spec.specs.EutxoTypes.declared.spend.Spend.{Spend}
+use Rattle.ledger_spec.specs.EutxoTypes.declared.tx.Tx.{Tx}
+use Rattle.ledger_spec.specs.Eutxo.Found.{script_at, is_known, all_known}
+use Rattle.ledger_spec.specs.Eutxo.Laws.{FoundIsEnough}
+use Rattle.ledger_spec.specs.Eutxo.Local.{tx_fault, spent_fault}
+use Rattle.ledger_spec.specs.EutxoTypes.Digests.{datum_hash}
+use Rattle.ledger_spec.specs.EutxoTypes.Parts.{is_contract, made_datums, contract_at}
+use Rattle.ledger_spec.specs.Eutxo.Faults.{is_empty}
+use Rattle.ledger_spec.specs.Eutxo.Blocks.{step_fault}
+use Rattle.ledger_spec.specs.Eutxo.Rules.{starts_wrong, starts_wrong_at, steps_of, wrong_datum}
+use Rattle.ledger_spec.specs.Roles.declared.published.Published.{Published}
+use Rattle.ledger_spec.specs.Roles.Sums.{sums_of}
+use Rattle.ledger_spec.specs.Roles.Steps.{same_cont, is_fresh, same_amounts, starts_from, marlowe}
+use Rattle.ledger_spec.proofs.FromRoles.OwedLaws.{same_amounts_itself}
+use Rattle.ledger_spec.specs.Ledger.declared.look.Unspent.{Unspent}
+use Rattle.ledger_spec.specs.BuilderSpec.declared.fault.BuildFault.TheVariants.{NoFunds}
+use Rattle.ledger_spec.specs.BuilderSpec.Requests.{StartRequest}
+use Rattle.ledger_spec.specs.BuilderSpec.Holding.{least_lacking}
+use Rattle.ledger_spec.specs.BuilderSpec.Causes.{signature_cause, funds_cause, limit_cause, repeat_cause}
+use Rattle.ledger_spec.specs.BuilderSpec.Laying.{by_key, paid_to, rest}
+use Rattle.ledger_spec.specs.BuilderSpec.Starts.{fresh_state, accounts_of, covers_accounts, start_front, start_funds_cause, hinders_start, start_datum, start_output, layout_start}
+use Rattle.ledger_spec.proofs.FromBuilderSpec.FrontsLaws.{shortest_passes}
 use Rattle.builder_laws.specs.Accepting.{StartsPass, StartsAreAccepted}
 use Rattle.builder_laws.specs.AfterPasts.{BytesTellApart, StartsAreAcceptedAfter}
 use Rattle.builder_laws.proofs.TestLemmas.{both, together, not_so, each_at, none_counted, each_none, unmapped, everywhere_all}

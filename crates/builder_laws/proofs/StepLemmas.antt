@@ -2,18 +2,18 @@
 use Rattle.std.proofs.Common.{◌≡◌, true, not, List, [], ◌∷◌, ◌++◌, None, Ok}
 use Rattle.std.specs.Prelude.{is_none}
 use Rattle.std.specs.List.{list_all, filter_map, AllByRecursion}
-use Rattle.semantics.specs.Walk.{Standing, answer_of}
-use Rattle.roles.specs.declared.published.Published.{Published}
-use Rattle.roles.specs.Steps.{actor}
-use Rattle.ledger.specs.declared.look.Unspent.{Unspent}
-use Rattle.builder_spec.specs.declared.fault.BuildFault.TheVariants.{NotAuthorised, NoFunds}
-use Rattle.builder_spec.specs.Requests.{StepRequest}
-use Rattle.builder_spec.specs.Holding.{holds_token, least_lacking}
-use Rattle.builder_spec.specs.Fronts.{suffices}
-use Rattle.builder_spec.specs.Causes.{signature_cause, funds_cause, repeat_cause}
-use Rattle.builder_spec.specs.Steps.{Thread, step_walk, semantics_cause, roles_of, deposits, may_act, authority_cause, step_front, own_output}
-use Rattle.builder_spec.proofs.OnePartLaws.{step_limit_cause, hinders_thread}
-use Rattle.builder_spec.proofs.SufficesLaws.{front_suffices}
+use Rattle.ledger_spec.specs.Semantics.Walk.{Standing, answer_of}
+use Rattle.ledger_spec.specs.Roles.declared.published.Published.{Published}
+use Rattle.ledger_spec.specs.Roles.Steps.{actor}
+use Rattle.ledger_spec.specs.Ledger.declared.look.Unspent.{Unspent}
+use Rattle.ledger_spec.specs.BuilderSpec.declared.fault.BuildFault.TheVariants.{NotAuthorised, NoFunds}
+use Rattle.ledger_spec.specs.BuilderSpec.Requests.{StepRequest}
+use Rattle.ledger_spec.specs.BuilderSpec.Holding.{holds_token, least_lacking}
+use Rattle.ledger_spec.specs.BuilderSpec.Fronts.{suffices}
+use Rattle.ledger_spec.specs.BuilderSpec.Causes.{signature_cause, funds_cause, repeat_cause}
+use Rattle.ledger_spec.specs.BuilderSpec.Steps.{Thread, step_walk, semantics_cause, roles_of, deposits, may_act, authority_cause, step_front, own_output}
+use Rattle.ledger_spec.proofs.FromBuilderSpec.OnePartLaws.{step_limit_cause, hinders_thread}
+use Rattle.ledger_spec.proofs.FromBuilderSpec.SufficesLaws.{front_suffices}
 use Rattle.builder_laws.proofs.TestLemmas.{Nowhere, both, together, everywhere_all, found_nowhere, each_none, unmapped}
 use Rattle.builder_laws.proofs.FrontLemmas.{shortest_rest}
 use Rattle.builder_laws.proofs.CausesLemmas.{is_nothing}

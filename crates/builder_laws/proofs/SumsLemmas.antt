@@ -7,22 +7,22 @@ use Rattle.std.specs.Option.{unwrap_or, option_map}
 use Rattle.std.specs.Ordering.{int_eq}
 use Rattle.std.specs.FinMap.{entries, get-entries}
 use Rattle.std.specs.FinMap.Entries.{find}
-use Rattle.names.specs.declared.token.Token.{Token}
-use Rattle.names.specs.Orders.{token_cmp}
-use Rattle.bundle.specs.Bundles.{Amounts, amount_of}
-use Rattle.bundle.specs.Totals.{total_of}
-use Rattle.bundle.proofs.AmountLaws.{rests_are_of_each_token}
-use Rattle.eutxo_types.specs.declared.fault.TxFault.TheVariants.{NotPreserved}
-use Rattle.eutxo_types.specs.declared.lock.Lock.TheVariants.{Key}
-use Rattle.eutxo_types.specs.declared.output.Output.{Output}
-use Rattle.eutxo_types.specs.declared.spend.Spend.{Spend}
-use Rattle.eutxo.specs.Differing.{tokens_of, differs, least}
-use Rattle.eutxo.specs.Faults.{is_empty}
-use Rattle.eutxo.specs.Rules.{not_preserved}
-use Rattle.ledger.specs.declared.look.Unspent.{Unspent}
-use Rattle.builder_spec.specs.Holding.{sums, amount_in}
-use Rattle.builder_spec.specs.Laying.{paid_to, rest}
-use Rattle.builder_spec.proofs.HoldingLaws.{amount_of-sums, total_of-append}
+use Rattle.contract.specs.Names.declared.token.Token.{Token}
+use Rattle.contract.specs.Names.Orders.{token_cmp}
+use Rattle.ledger_spec.specs.Bundle.Bundles.{Amounts, amount_of}
+use Rattle.ledger_spec.specs.Bundle.Totals.{total_of}
+use Rattle.ledger_spec.proofs.FromBundle.AmountLaws.{rests_are_of_each_token}
+use Rattle.ledger_spec.specs.EutxoTypes.declared.fault.TxFault.TheVariants.{NotPreserved}
+use Rattle.ledger_spec.specs.EutxoTypes.declared.lock.Lock.TheVariants.{Key}
+use Rattle.ledger_spec.specs.EutxoTypes.declared.output.Output.{Output}
+use Rattle.ledger_spec.specs.EutxoTypes.declared.spend.Spend.{Spend}
+use Rattle.ledger_spec.specs.Eutxo.Differing.{tokens_of, differs, least}
+use Rattle.ledger_spec.specs.Eutxo.Faults.{is_empty}
+use Rattle.ledger_spec.specs.Eutxo.Rules.{not_preserved}
+use Rattle.ledger_spec.specs.Ledger.declared.look.Unspent.{Unspent}
+use Rattle.ledger_spec.specs.BuilderSpec.Holding.{sums, amount_in}
+use Rattle.ledger_spec.specs.BuilderSpec.Laying.{paid_to, rest}
+use Rattle.ledger_spec.proofs.FromBuilderSpec.HoldingLaws.{amount_of-sums, total_of-append}
 use Rattle.builder_laws.proofs.TestLemmas.{Nowhere, none_kept}
 
 no_more : (n : ℤ) → n +ℤ pos 0 ≡ n

@@ -5,7 +5,7 @@ use Rattle.std.specs.List.{list_any, list_all, find, filter, position, position_
 use Rattle.std.specs.Option.{option_map}
 use Rattle.std.proofs.lemmas.Iterator.Adapters.{position_from-zero}
 use Rattle.std.proofs.lemmas.List.Sums.{sum_by-cons}
-use Rattle.eutxo.specs.Faults.{first_of, first_index}
+use Rattle.ledger_spec.specs.Eutxo.Faults.{first_of, first_index}
 
 -- ---- two tests
 

@@ -1,19 +1,19 @@
 -- When the layout of a request is accepted.
 use Rattle.std.specs.Prelude.{◌≡◌, true, List, ◌++◌, map, Option, Some, None, is_some}
-use Rattle.eutxo_types.specs.declared.output.Output.{Output}
-use Rattle.eutxo_types.specs.declared.tx.Tx.{Tx}
-use Rattle.eutxo.specs.declared.resolved.Resolved.{Resolved}
-use Rattle.eutxo.specs.Found.{script_at, whole}
-use Rattle.eutxo.specs.Judgement.{Moment, judge}
-use Rattle.eutxo.specs.Local.{local}
-use Rattle.roles.specs.declared.published.Published.{Published}
-use Rattle.ledger.specs.declared.look.Unspent.{Unspent}
-use Rattle.builder_spec.specs.Requests.{StepsRequest, StartRequest, ClaimRequest}
-use Rattle.builder_spec.specs.Parts.{threads_of, parts_spent, ArePublished, hinders_steps, layout_steps}
-use Rattle.builder_spec.specs.Steps.{Stepped}
-use Rattle.builder_spec.specs.Starts.{start_front, hinders_start, layout_start}
-use Rattle.builder_spec.specs.Claims.{claim_front, hinders_claim, layout_claim}
-use Rattle.roles.specs.Steps.{marlowe}
+use Rattle.ledger_spec.specs.EutxoTypes.declared.output.Output.{Output}
+use Rattle.ledger_spec.specs.EutxoTypes.declared.tx.Tx.{Tx}
+use Rattle.ledger_spec.specs.Eutxo.declared.resolved.Resolved.{Resolved}
+use Rattle.ledger_spec.specs.Eutxo.Found.{script_at, whole}
+use Rattle.ledger_spec.specs.Eutxo.Judgement.{Moment, judge}
+use Rattle.ledger_spec.specs.Eutxo.Local.{local}
+use Rattle.ledger_spec.specs.Roles.declared.published.Published.{Published}
+use Rattle.ledger_spec.specs.Ledger.declared.look.Unspent.{Unspent}
+use Rattle.ledger_spec.specs.BuilderSpec.Requests.{StepsRequest, StartRequest, ClaimRequest}
+use Rattle.ledger_spec.specs.BuilderSpec.Parts.{threads_of, parts_spent, ArePublished, hinders_steps, layout_steps}
+use Rattle.ledger_spec.specs.BuilderSpec.Steps.{Stepped}
+use Rattle.ledger_spec.specs.BuilderSpec.Starts.{start_front, hinders_start, layout_start}
+use Rattle.ledger_spec.specs.BuilderSpec.Claims.{claim_front, hinders_claim, layout_claim}
+use Rattle.ledger_spec.specs.Roles.Steps.{marlowe}
 use Rattle.ledger_spec.specs.Open.{Admits}
 
 -- ---- on what was handed in

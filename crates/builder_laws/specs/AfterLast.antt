@@ -1,14 +1,14 @@
 -- After the last timeout anyone can close a thread: without inputs, and with nothing offered.
 use Rattle.std.specs.Prelude.{◌≡◌, ℕ, ◌≤ℤ◌, List, Some, None}
 use Rattle.contract.specs.declared.interval.Interval.{Interval}
-use Rattle.evaluation.specs.Timeouts.{last}
-use Rattle.semantics.specs.Closing.{HasReached}
-use Rattle.eutxo_types.specs.Fitting.{OutputFits}
-use Rattle.ledger.specs.declared.look.Look.{Look}
-use Rattle.builder_spec.specs.declared.fault.BuildFault.TheVariants.{NoThread}
-use Rattle.builder_spec.specs.Closings.{closing, Closes}
-use Rattle.builder_spec.specs.Parts.{hinders_step}
-use Rattle.builder_spec.specs.Steps.{Thread, thread_terms, look_thread}
+use Rattle.ledger_spec.specs.Evaluation.Timeouts.{last}
+use Rattle.ledger_spec.specs.Semantics.Closing.{HasReached}
+use Rattle.ledger_spec.specs.EutxoTypes.Fitting.{OutputFits}
+use Rattle.ledger_spec.specs.Ledger.declared.look.Look.{Look}
+use Rattle.ledger_spec.specs.BuilderSpec.declared.fault.BuildFault.TheVariants.{NoThread}
+use Rattle.ledger_spec.specs.BuilderSpec.Closings.{closing, Closes}
+use Rattle.ledger_spec.specs.BuilderSpec.Parts.{hinders_step}
+use Rattle.ledger_spec.specs.BuilderSpec.Steps.{Thread, thread_terms, look_thread}
 
 -- ANYONE CLOSES A THREAD from the last timeout on, in an interval that ends neither before its start nor before the minimum time. (Its
 -- output fits its spelling, as all do that are made.)

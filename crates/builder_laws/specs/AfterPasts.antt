@@ -1,18 +1,18 @@
 -- When a layout is accepted after what a ledger accepted, however it came by it.
 use Rattle.std.specs.Prelude.{◌≡◌, ℕ, ℤ, List, ◌++◌, slice_get, All, Option, Some, None}
-use Rattle.eutxo_types.specs.declared.tx.Tx.{Tx}
-use Rattle.eutxo_types.specs.Fitting.{TxFits}
-use Rattle.eutxo_types.specs.Spelling.{tx_bytes}
-use Rattle.eutxo.specs.Judgement.{judge}
-use Rattle.roles.specs.declared.published.Published.{Published}
-use Rattle.builder_spec.specs.Requests.{StepsRequest, StartRequest, ClaimRequest}
-use Rattle.builder_spec.specs.Parts.{threads_of, parts_spent, ArePublished, hinders_steps, layout_steps}
-use Rattle.builder_spec.specs.Steps.{Stepped}
-use Rattle.builder_spec.specs.Starts.{start_front, hinders_start, layout_start}
-use Rattle.builder_spec.specs.Claims.{claim_front, hinders_claim, layout_claim}
-use Rattle.ledger_laws.specs.Past.{Past}
-use Rattle.ledger_laws.specs.Sound.{moment}
-use Rattle.roles.specs.Steps.{marlowe}
+use Rattle.ledger_spec.specs.EutxoTypes.declared.tx.Tx.{Tx}
+use Rattle.ledger_spec.specs.EutxoTypes.Fitting.{TxFits}
+use Rattle.ledger_spec.specs.EutxoTypes.Spelling.{tx_bytes}
+use Rattle.ledger_spec.specs.Eutxo.Judgement.{judge}
+use Rattle.ledger_spec.specs.Roles.declared.published.Published.{Published}
+use Rattle.ledger_spec.specs.BuilderSpec.Requests.{StepsRequest, StartRequest, ClaimRequest}
+use Rattle.ledger_spec.specs.BuilderSpec.Parts.{threads_of, parts_spent, ArePublished, hinders_steps, layout_steps}
+use Rattle.ledger_spec.specs.BuilderSpec.Steps.{Stepped}
+use Rattle.ledger_spec.specs.BuilderSpec.Starts.{start_front, hinders_start, layout_start}
+use Rattle.ledger_spec.specs.BuilderSpec.Claims.{claim_front, hinders_claim, layout_claim}
+use Rattle.ledger_spec.specs.LedgerLaws.Past.{Past}
+use Rattle.ledger_spec.specs.LedgerLaws.Sound.{moment}
+use Rattle.ledger_spec.specs.Roles.Steps.{marlowe}
 use Rattle.ledger_spec.specs.Open.{IsOpen}
 
 -- the transaction and all that were accepted fit their spelling, as each does that was hashed

@@ -1,15 +1,15 @@
 -- A thread that a ledger shows meets the first clause of what hinders a step.
 use Rattle.std.specs.Prelude.{◌≡◌, ℕ, List, Option, Some}
-use Rattle.eutxo_types.specs.Parts.{ContractLock, contract_in, Instance}
-use Rattle.roles.specs.declared.published.Published.{Published}
-use Rattle.ledger.specs.declared.look.Look.{Look}
-use Rattle.ledger.specs.declared.look.ThreadOutput.{ThreadOutput}
-use Rattle.builder_spec.specs.Steps.{look_thread}
-use Rattle.ledger_laws.specs.Past.{Past, unspent_at}
-use Rattle.ledger_laws.specs.Sound.{IsSound}
-use Rattle.ledger_laws.specs.Threads.{IsMade}
-use Rattle.roles.specs.Steps.{marlowe}
-use Rattle.ledger_laws.specs.Laws.{AreTables}
+use Rattle.ledger_spec.specs.EutxoTypes.Parts.{ContractLock, contract_in, Instance}
+use Rattle.ledger_spec.specs.Roles.declared.published.Published.{Published}
+use Rattle.ledger_spec.specs.Ledger.declared.look.Look.{Look}
+use Rattle.ledger_spec.specs.Ledger.declared.look.ThreadOutput.{ThreadOutput}
+use Rattle.ledger_spec.specs.BuilderSpec.Steps.{look_thread}
+use Rattle.ledger_spec.specs.LedgerLaws.Past.{Past, unspent_at}
+use Rattle.ledger_spec.specs.LedgerLaws.Sound.{IsSound}
+use Rattle.ledger_spec.specs.LedgerLaws.Threads.{IsMade}
+use Rattle.ledger_spec.specs.Roles.Steps.{marlowe}
+use Rattle.ledger_spec.specs.LedgerLaws.Laws.{AreTables}
 
 -- what is published under an id has that id
 abbrev pub AreUnderIds : (List ℕ → Option Published) → Type 0

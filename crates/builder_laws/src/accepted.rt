@@ -2,9 +2,7 @@
 ghost use Rattle.builder_laws.specs.Accepting.{PartsPass, StartsPass, ClaimsPass, PartsAreAccepted, StartsAreAccepted, ClaimsAreAccepted};
 ghost use Rattle.builder_laws.specs.AfterPasts.{PartsAreAcceptedAfter, StartsAreAcceptedAfter, ClaimsAreAcceptedAfter, BytesTellApart};
 
-use eutxo::found_is_enough;
-use eutxo_types::no_transaction_begins_another;
-use roles::Published;
+use ledger_spec::{Published, found_is_enough, no_transaction_begins_another};
 
 /// The layout of steps that nothing hinders, of one thread or of several, is accepted by every ledger at every moment at
 /// which what it spends is unspent with the contents that were handed in, each thread's script is published as its look

@@ -2,10 +2,9 @@
 ghost use Rattle.builder_laws.specs.ShownThreads.{ShownThreadsAreCurrent};
 ghost use Rattle.builder_laws.specs.AfterLast.{AnyoneCloses, NoThreadHinders};
 
-use eutxo::found_is_enough;
-use ledger_laws::contracts_are_funded;
-use roles::Published;
-use semantics::contracts_close_after_the_last_timeout;
+use ledger_spec::{
+    Published, contracts_are_funded, contracts_close_after_the_last_timeout, found_is_enough,
+};
 
 /// A look that shows an unspent contract output of a ledger, with the datum that its maker brought and what is
 /// published there under its script, shows a thread that stands: it is of that script, holds the datum's digest, is at

@@ -6,36 +6,36 @@ use Rattle.std.specs.Option.{unwrap_or}
 use Rattle.std.specs.Ordering.{eq_by_cmp, is_eq}
 use Rattle.std.specs.declared.cmp.Ordering.TheVariants.{Less, Equal, Greater}
 use Rattle.std.specs.FinMap.{entries, empty, insert, get, get-insert}
-use Rattle.collections.specs.Total.{total}
-use Rattle.names.specs.declared.account.Account.{Account}
-use Rattle.names.specs.declared.party.Party.{Party}
-use Rattle.names.specs.declared.payee.Payee.{Payee}
-use Rattle.names.specs.declared.payee.Payee.TheVariants as to
-use Rattle.names.specs.declared.token.Token.{Token}
-use Rattle.names.specs.Orders.{token_cmp}
-use Rattle.names.specs.Totals.{token_total}
-use Rattle.names.proofs.Exact.{token_exact}
+use Rattle.contract.specs.Collections.Total.{total}
+use Rattle.contract.specs.Names.declared.account.Account.{Account}
+use Rattle.contract.specs.Names.declared.party.Party.{Party}
+use Rattle.contract.specs.Names.declared.payee.Payee.{Payee}
+use Rattle.contract.specs.Names.declared.payee.Payee.TheVariants as to
+use Rattle.contract.specs.Names.declared.token.Token.{Token}
+use Rattle.contract.specs.Names.Orders.{token_cmp}
+use Rattle.contract.specs.Names.Totals.{token_total}
+use Rattle.contract.proofs.FromNames.Exact.{token_exact}
 use Rattle.contract.specs.declared.fault.SemFault.{SemFault}
 use Rattle.contract.specs.declared.fault.SemFault.TheVariants.{Leaves128}
 use Rattle.contract.specs.declared.input.Input.{Input}
 use Rattle.contract.specs.declared.input.Input.TheVariants.{Deposit, Choice, Notify}
 use Rattle.contract.specs.declared.payment.Payment.{Payment}
 use Rattle.contract.specs.Tree.{ContractTree, CaseTrees, close, when}
-use Rattle.states.specs.States.{StateMaps, AllPositive, counted, in_token}
-use Rattle.states.specs.States as states
-use Rattle.evaluation.specs.Numbers.{all_fit}
-use Rattle.semantics.specs.Walk.{Standing, Walk, answer_of}
-use Rattle.semantics.specs.Laws.{EndsQuiet}
-use Rattle.semantics.specs.Money.{brought, deposited, taken_out, paid_out, MoneyIsKept}
-use Rattle.semantics.specs.Naturals.{AreNatural, PaymentsAreNatural}
-use Rattle.bundle.specs.Bundles.{Amounts, amount_of}
-use Rattle.bundle.specs.Totals.{total_of}
-use Rattle.bundle.proofs.AmountLaws.{amount_of-with_amount, rests_are_of_each_token}
-use Rattle.machine.specs.declared.datum.Datum.{Datum}
-use Rattle.eutxo_types.specs.declared.output.Output.{Output}
-use Rattle.table.specs.Flat.{is_close}
-use Rattle.roles.specs.Steps.{only, due_above, and_owed_output, due_outputs, continuation, next_datum}
-use Rattle.roles.specs.Sums.{sums_in, sums_of}
+use Rattle.contract.specs.States.States.{StateMaps, AllPositive, counted, in_token}
+use Rattle.contract.specs.States.States as states
+use Rattle.ledger.specs.Evaluation.Numbers.{all_fit}
+use Rattle.ledger.specs.Semantics.Walk.{Standing, Walk, answer_of}
+use Rattle.ledger.specs.Semantics.Laws.{EndsQuiet}
+use Rattle.ledger.specs.Semantics.Money.{brought, deposited, taken_out, paid_out, MoneyIsKept}
+use Rattle.ledger.specs.Semantics.Naturals.{AreNatural, PaymentsAreNatural}
+use Rattle.ledger.specs.Bundle.Bundles.{Amounts, amount_of}
+use Rattle.ledger.specs.Bundle.Totals.{total_of}
+use Rattle.ledger.proofs.FromBundle.AmountLaws.{amount_of-with_amount, rests_are_of_each_token}
+use Rattle.ledger.specs.Machine.declared.datum.Datum.{Datum}
+use Rattle.ledger.specs.EutxoTypes.declared.output.Output.{Output}
+use Rattle.ledger.specs.Table.Flat.{is_close}
+use Rattle.ledger.specs.Roles.Steps.{only, due_above, and_owed_output, due_outputs, continuation, next_datum}
+use Rattle.ledger.specs.Roles.Sums.{sums_in, sums_of}
 use Rattle.ledger.specs.declared.look.Unspent.{Unspent}
 use Rattle.builder_spec.specs.Requests.{StepRequest}
 use Rattle.builder_spec.specs.Holding.{sums, amount_in, wanted, lacks, least_lacking, AreBundles}

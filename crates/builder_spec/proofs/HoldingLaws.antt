@@ -9,16 +9,16 @@ use Rattle.std.specs.Cmp.{tied_itself}
 use Rattle.std.specs.declared.cmp.Ordering.TheVariants.{Less, Equal, Greater}
 use Rattle.std.specs.FinMap.{empty, entries, entries_sorted, insert, entries-insert, entries-from_sorted, get-empty, get-entries}
 use Rattle.std.specs.FinMap.Entries.{find, is_sorted}
-use Rattle.collections.proofs.Maps.{no_entries}
-use Rattle.collections.proofs.Places.{second, third, find_below, below_equal}
-use Rattle.names.specs.declared.token.Token.{Token}
-use Rattle.names.specs.Orders.{token_cmp}
-use Rattle.names.specs.Totals.{token_total}
-use Rattle.bundle.specs.Bundles.{Amounts, amount_of, with_amount, each, plus, is_large, any_large, too_large, AllPositive}
-use Rattle.bundle.specs.Totals.{total_of}
-use Rattle.bundle.proofs.AmountLaws.{by_zero, sums_are_of_each_token}
-use Rattle.bundle.proofs.PositiveLaws.{AllPositive-put, amount_of-natural}
-use Rattle.bundle.proofs.ApartLaws.{amounts_tell_apart}
+use Rattle.contract.proofs.FromCollections.Maps.{no_entries}
+use Rattle.contract.proofs.FromCollections.Places.{second, third, find_below, below_equal}
+use Rattle.contract.specs.Names.declared.token.Token.{Token}
+use Rattle.contract.specs.Names.Orders.{token_cmp}
+use Rattle.contract.specs.Names.Totals.{token_total}
+use Rattle.ledger.specs.Bundle.Bundles.{Amounts, amount_of, with_amount, each, plus, is_large, any_large, too_large, AllPositive}
+use Rattle.ledger.specs.Bundle.Totals.{total_of}
+use Rattle.ledger.proofs.FromBundle.AmountLaws.{by_zero, sums_are_of_each_token}
+use Rattle.ledger.proofs.FromBundle.PositiveLaws.{AllPositive-put, amount_of-natural}
+use Rattle.ledger.proofs.FromBundle.ApartLaws.{amounts_tell_apart}
 use Rattle.builder_spec.specs.Holding.{sums, AreBundles}
 use Rattle.builder_spec.specs.Causes.{is_much}
 

@@ -3,9 +3,9 @@ use Rattle.std.proofs.Common.{◌≡◌, Bool, true, false, ◌||◌, List, [], 
 use Rattle.std.specs.Prelude.{if◌then◌else◌, map, nat_lt, length}
 use Rattle.std.proofs.lemmas.List.{append-nil}
 use Rattle.contract.specs.declared.input.Input.{Input}
-use Rattle.semantics.specs.Walk.{answer_of}
-use Rattle.eutxo_types.specs.declared.tx.Tx.{Tx}
-use Rattle.eutxo.specs.Faults.{first_of}
+use Rattle.ledger.specs.Semantics.Walk.{answer_of}
+use Rattle.ledger.specs.EutxoTypes.declared.tx.Tx.{Tx}
+use Rattle.ledger.specs.Eutxo.Faults.{first_of}
 use Rattle.ledger.specs.declared.look.Look.{Look}
 use Rattle.ledger.specs.declared.look.Unspent.{Unspent}
 use Rattle.builder_spec.specs.declared.fault.BuildFault.{BuildFault}

@@ -3,11 +3,11 @@ use Rattle.std.proofs.Common.{◌≡◌, ℕ, zero, suc, ◌≤◌, ℤ, pos, �
 use Rattle.std.proofs.lemmas.Int.{ints}
 use Rattle.std.specs.List.{list_all, list_any}
 use Rattle.std.specs.Ordering.{is_lt}
-use Rattle.names.specs.declared.token.Token.{Token}
-use Rattle.names.specs.Orders.{token_cmp}
-use Rattle.bundle.specs.Bundles.{Amounts, amount_of}
-use Rattle.bundle.specs.Totals.{total_of}
-use Rattle.eutxo.specs.Differing.{lesser, least}
+use Rattle.contract.specs.Names.declared.token.Token.{Token}
+use Rattle.contract.specs.Names.Orders.{token_cmp}
+use Rattle.ledger.specs.Bundle.Bundles.{Amounts, amount_of}
+use Rattle.ledger.specs.Bundle.Totals.{total_of}
+use Rattle.ledger.specs.Eutxo.Differing.{lesser, least}
 use Rattle.ledger.specs.declared.look.Unspent.{Unspent}
 use Rattle.builder_spec.specs.Holding.{amount_in, holds_token, wanted, lacks, least_lacking, AreBundles}
 use Rattle.builder_spec.specs.Fronts.{suffices, front}

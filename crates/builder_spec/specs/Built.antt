@@ -1,6 +1,6 @@
 -- What a builder answers.
 use Rattle.std.specs.Prelude.{Option, Some, None, Result, Ok, Err}
-use Rattle.eutxo_types.specs.declared.tx.Tx.{Tx}
+use Rattle.ledger.specs.EutxoTypes.declared.tx.Tx.{Tx}
 use Rattle.builder_spec.specs.declared.fault.BuildFault.{BuildFault}
 
 -- the fault that hinders the request; or, where nothing does, its layout

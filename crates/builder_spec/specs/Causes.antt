@@ -2,13 +2,13 @@
 use Rattle.std.specs.Prelude.{ℕ, ℤ, pos, ◌-◌, ◌^◌, int_lt, nat_lt, Bool, false, ◌||◌, if◌then◌else◌, List, [], ◌∷◌, map, length, Option, Some, None, option_map}
 use Rattle.std.specs.List.{list_all, list_any}
 use Rattle.std.specs.FinMap.{entries}
-use Rattle.names.specs.declared.token.Token.{Token}
-use Rattle.bundle.specs.Bundles.{Amounts}
-use Rattle.eutxo_types.specs.declared.lock.Lock.{Lock}
-use Rattle.eutxo_types.specs.declared.lock.Lock.TheVariants.{Key, Payout, Contract}
-use Rattle.eutxo_types.specs.declared.output_ref.OutputRef.{OutputRef}
-use Rattle.eutxo_types.specs.Parts.{same_ref}
-use Rattle.eutxo.specs.Rules.{has_signed}
+use Rattle.contract.specs.Names.declared.token.Token.{Token}
+use Rattle.ledger.specs.Bundle.Bundles.{Amounts}
+use Rattle.ledger.specs.EutxoTypes.declared.lock.Lock.{Lock}
+use Rattle.ledger.specs.EutxoTypes.declared.lock.Lock.TheVariants.{Key, Payout, Contract}
+use Rattle.ledger.specs.EutxoTypes.declared.output_ref.OutputRef.{OutputRef}
+use Rattle.ledger.specs.EutxoTypes.Parts.{same_ref}
+use Rattle.ledger.specs.Eutxo.Rules.{has_signed}
 use Rattle.ledger.specs.declared.look.Unspent.{Unspent}
 use Rattle.builder_spec.specs.declared.fault.BuildFault.{BuildFault}
 use Rattle.builder_spec.specs.declared.fault.BuildFault.TheVariants.{NotSigned, NoFunds, TooMany, Repeated}

@@ -1,12 +1,12 @@
 -- What is left for the change.
 use Rattle.std.specs.Prelude.{◌≡◌, ◌-ℤ◌, ◌≤ℤ◌, [], ◌∷◌, Some, None}
 use Rattle.std.specs.FinMap.{entries}
-use Rattle.names.specs.declared.token.Token.{Token}
-use Rattle.states.specs.States as states
-use Rattle.states.specs.States.{AllPositive}
-use Rattle.semantics.specs.Money.{deposited}
-use Rattle.bundle.specs.Bundles.{amount_of}
-use Rattle.bundle.specs.Totals.{total_of}
+use Rattle.contract.specs.Names.declared.token.Token.{Token}
+use Rattle.contract.specs.States.States as states
+use Rattle.contract.specs.States.States.{AllPositive}
+use Rattle.ledger.specs.Semantics.Money.{deposited}
+use Rattle.ledger.specs.Bundle.Bundles.{amount_of}
+use Rattle.ledger.specs.Bundle.Totals.{total_of}
 use Rattle.ledger.specs.declared.look.Look.{Look}
 use Rattle.builder_spec.specs.Requests.{StepRequest, StartRequest}
 use Rattle.builder_spec.specs.Holding.{amount_in, AreBundles}

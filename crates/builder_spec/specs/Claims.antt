@@ -1,13 +1,13 @@
 -- Claims of payouts: what hinders one, and how it is laid out.
 use Rattle.std.specs.Prelude.{not, ◌||◌, if◌then◌else◌, List, [], ◌∷◌, ◌++◌, map, Option, Some, None, option_map}
 use Rattle.std.specs.List.{list_any, filter_map}
-use Rattle.names.specs.declared.party.Party.TheVariants.{Role}
-use Rattle.names.specs.declared.token.Token.{Token}
-use Rattle.eutxo_types.specs.declared.lock.Lock.{Lock}
-use Rattle.eutxo_types.specs.declared.tx.Tx.{Tx}
-use Rattle.eutxo_types.specs.Parts.{is_payout, payout_in}
-use Rattle.eutxo.specs.Faults.{first_of, is_empty}
-use Rattle.roles.specs.Steps.{role_token}
+use Rattle.contract.specs.Names.declared.party.Party.TheVariants.{Role}
+use Rattle.contract.specs.Names.declared.token.Token.{Token}
+use Rattle.ledger.specs.EutxoTypes.declared.lock.Lock.{Lock}
+use Rattle.ledger.specs.EutxoTypes.declared.tx.Tx.{Tx}
+use Rattle.ledger.specs.EutxoTypes.Parts.{is_payout, payout_in}
+use Rattle.ledger.specs.Eutxo.Faults.{first_of, is_empty}
+use Rattle.ledger.specs.Roles.Steps.{role_token}
 use Rattle.ledger.specs.declared.look.Unspent.{Unspent}
 use Rattle.builder_spec.specs.declared.fault.BuildFault.{BuildFault}
 use Rattle.builder_spec.specs.declared.fault.BuildFault.TheVariants.{NoThread, NotAuthorised}

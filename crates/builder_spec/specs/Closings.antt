@@ -1,12 +1,12 @@
 -- Closing a thread after its last timeout: the step that anyone can build, and what comes of it.
 use Rattle.std.specs.Prelude.{◌≡◌, ℕ, List, [], ◌⊎◌, Option, Some, None, Ok}
-use Rattle.names.specs.declared.token.Token.{Token}
+use Rattle.contract.specs.Names.declared.token.Token.{Token}
 use Rattle.contract.specs.declared.fault.SemFault.TheVariants.{Useless, Leaves128}
 use Rattle.contract.specs.declared.interval.Interval.{Interval}
-use Rattle.semantics.specs.Walk.{Standing, answer_of}
-use Rattle.semantics.specs.Money.{paid_out}
-use Rattle.semantics.specs.Closing.{IsSpent}
-use Rattle.bundle.specs.Bundles.{amount_of}
+use Rattle.ledger.specs.Semantics.Walk.{Standing, answer_of}
+use Rattle.ledger.specs.Semantics.Money.{paid_out}
+use Rattle.ledger.specs.Semantics.Closing.{IsSpent}
+use Rattle.ledger.specs.Bundle.Bundles.{amount_of}
 use Rattle.builder_spec.specs.declared.fault.BuildFault.{BuildFault}
 use Rattle.builder_spec.specs.declared.fault.BuildFault.TheVariants.{Semantics}
 use Rattle.builder_spec.specs.Requests.{StepRequest}

@@ -1,8 +1,8 @@
 -- The front of what is offered: no more is spent than is needed.
 use Rattle.std.specs.Prelude.{ℤ, Bool, not, ◌&&◌, if◌then◌else◌, List, [], ◌∷◌, is_none}
 use Rattle.std.specs.List.{list_all}
-use Rattle.names.specs.declared.token.Token.{Token}
-use Rattle.eutxo.specs.Faults.{is_empty}
+use Rattle.contract.specs.Names.declared.token.Token.{Token}
+use Rattle.ledger.specs.Eutxo.Faults.{is_empty}
 use Rattle.ledger.specs.declared.look.Unspent.{Unspent}
 use Rattle.builder_spec.specs.Holding.{holds_token, least_lacking}
 

@@ -2,12 +2,12 @@
 use Rattle.std.specs.Prelude.{ℤ, pos, int_lt, Bool, not, List, [], ◌∷◌, map, filter, Option}
 use Rattle.std.specs.List.{list_any, find}
 use Rattle.std.specs.FinMap.{empty, entries}
-use Rattle.collections.specs.Total.{total}
-use Rattle.names.specs.declared.token.Token.{Token}
-use Rattle.states.specs.States.{counted}
-use Rattle.bundle.specs.Bundles.{Amounts, AllPositive, amount_of, plus}
-use Rattle.bundle.specs.Totals.{total_of}
-use Rattle.eutxo.specs.Differing.{least}
+use Rattle.contract.specs.Collections.Total.{total}
+use Rattle.contract.specs.Names.declared.token.Token.{Token}
+use Rattle.contract.specs.States.States.{counted}
+use Rattle.ledger.specs.Bundle.Bundles.{Amounts, AllPositive, amount_of, plus}
+use Rattle.ledger.specs.Bundle.Totals.{total_of}
+use Rattle.ledger.specs.Eutxo.Differing.{least}
 use Rattle.ledger.specs.declared.look.Unspent.{Unspent}
 
 -- what several hold together, token by token

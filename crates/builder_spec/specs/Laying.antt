@@ -2,13 +2,13 @@
 use Rattle.std.specs.Prelude.{ℕ, if◌then◌else◌, List, [], ◌∷◌}
 use Rattle.std.specs.FinMap.{entries}
 use Rattle.contract.specs.declared.input.Input.{Input}
-use Rattle.bundle.specs.Bundles.{Amounts, minus}
-use Rattle.eutxo_types.specs.declared.lock.Lock.TheVariants.{Key}
-use Rattle.eutxo_types.specs.declared.output.Output.{Output}
-use Rattle.eutxo_types.specs.declared.redeemer.Redeemer.{Redeemer}
-use Rattle.eutxo_types.specs.declared.redeemer.Redeemer.TheVariants as with
-use Rattle.eutxo_types.specs.declared.spend.Spend.{Spend}
-use Rattle.eutxo.specs.Faults.{is_empty}
+use Rattle.ledger.specs.Bundle.Bundles.{Amounts, minus}
+use Rattle.ledger.specs.EutxoTypes.declared.lock.Lock.TheVariants.{Key}
+use Rattle.ledger.specs.EutxoTypes.declared.output.Output.{Output}
+use Rattle.ledger.specs.EutxoTypes.declared.redeemer.Redeemer.{Redeemer}
+use Rattle.ledger.specs.EutxoTypes.declared.redeemer.Redeemer.TheVariants as with
+use Rattle.ledger.specs.EutxoTypes.declared.spend.Spend.{Spend}
+use Rattle.ledger.specs.Eutxo.Faults.{is_empty}
 use Rattle.ledger.specs.declared.look.Unspent.{Unspent}
 use Rattle.builder_spec.specs.Holding.{sums, amount_in}
 

@@ -2,19 +2,19 @@
 -- thread is steps of one part.
 use Rattle.std.specs.Prelude.{◌≡◌, ℕ, ℤ, nat_lt, Bool, false, not, ◌&&◌, ◌||◌, if◌then◌else◌, List, [], ◌∷◌, ◌++◌, map, length, All, Option, Some, None, option_map}
 use Rattle.std.specs.List.{list_any, flat_map}
-use Rattle.collections.specs.Same.{same_by}
-use Rattle.names.specs.declared.token.Token.{Token}
+use Rattle.contract.specs.Collections.Same.{same_by}
+use Rattle.contract.specs.Names.declared.token.Token.{Token}
 use Rattle.contract.specs.declared.input.Input.{Input}
-use Rattle.semantics.specs.Walk.{Walk, answer_of}
-use Rattle.machine.specs.declared.datum.Datum.{Datum}
-use Rattle.eutxo_types.specs.declared.output.Output.{Output}
-use Rattle.eutxo_types.specs.declared.output_ref.OutputRef.{OutputRef}
-use Rattle.eutxo_types.specs.declared.tx.Tx.{Tx}
-use Rattle.eutxo_types.specs.Parts.{same_bytes}
-use Rattle.eutxo.specs.Faults.{first_of}
-use Rattle.eutxo.specs.Judgement.{Moment}
-use Rattle.roles.specs.contracts.published.Published as publications
-use Rattle.roles.specs.declared.published.Published.{Published}
+use Rattle.ledger.specs.Semantics.Walk.{Walk, answer_of}
+use Rattle.ledger.specs.Machine.declared.datum.Datum.{Datum}
+use Rattle.ledger.specs.EutxoTypes.declared.output.Output.{Output}
+use Rattle.ledger.specs.EutxoTypes.declared.output_ref.OutputRef.{OutputRef}
+use Rattle.ledger.specs.EutxoTypes.declared.tx.Tx.{Tx}
+use Rattle.ledger.specs.EutxoTypes.Parts.{same_bytes}
+use Rattle.ledger.specs.Eutxo.Faults.{first_of}
+use Rattle.ledger.specs.Eutxo.Judgement.{Moment}
+use Rattle.ledger.specs.Roles.contracts.published.Published as publications
+use Rattle.ledger.specs.Roles.declared.published.Published.{Published}
 use Rattle.ledger.specs.declared.look.Look.{Look}
 use Rattle.ledger.specs.declared.look.Unspent.{Unspent}
 use Rattle.ledger.specs.Shown.{output_shown, script_shown}

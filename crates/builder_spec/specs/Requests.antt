@@ -2,8 +2,8 @@
 use Rattle.std.specs.Prelude.{ℕ, List, [], ◌∷◌}
 use Rattle.contract.specs.declared.input.Input.{Input}
 use Rattle.contract.specs.declared.interval.Interval.{Interval}
-use Rattle.states.specs.States.{StateMaps}
-use Rattle.roles.specs.declared.published.Published.{Published}
+use Rattle.contract.specs.States.States.{StateMaps}
+use Rattle.ledger.specs.Roles.declared.published.Published.{Published}
 use Rattle.ledger.specs.declared.look.Look.{Look}
 use Rattle.ledger.specs.declared.look.Unspent.{Unspent}
 

@@ -1,14 +1,14 @@
 -- Starts of a contract: what hinders one, and how it is laid out.
 use Rattle.std.specs.Prelude.{ℤ, Bool, if◌then◌else◌, List, [], ◌∷◌, map, Option, Some}
 use Rattle.std.specs.FinMap.{entries, empty}
-use Rattle.names.specs.declared.token.Token.{Token}
-use Rattle.names.specs.Equal.{ada}
-use Rattle.states.specs.States.{StateMaps}
-use Rattle.eutxo_types.specs.declared.output.Output.{Output}
-use Rattle.eutxo_types.specs.declared.tx.Tx.{Tx}
-use Rattle.eutxo.specs.Faults.{first_of, is_empty}
-use Rattle.machine.specs.declared.datum.Datum.{Datum}
-use Rattle.roles.specs.Steps.{continuation}
+use Rattle.contract.specs.Names.declared.token.Token.{Token}
+use Rattle.contract.specs.Names.Equal.{ada}
+use Rattle.contract.specs.States.States.{StateMaps}
+use Rattle.ledger.specs.EutxoTypes.declared.output.Output.{Output}
+use Rattle.ledger.specs.EutxoTypes.declared.tx.Tx.{Tx}
+use Rattle.ledger.specs.Eutxo.Faults.{first_of, is_empty}
+use Rattle.ledger.specs.Machine.declared.datum.Datum.{Datum}
+use Rattle.ledger.specs.Roles.Steps.{continuation}
 use Rattle.ledger.specs.declared.look.Unspent.{Unspent}
 use Rattle.builder_spec.specs.declared.fault.BuildFault.{BuildFault}
 use Rattle.builder_spec.specs.declared.fault.BuildFault.TheVariants.{NoFunds}

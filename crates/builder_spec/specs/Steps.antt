@@ -1,24 +1,24 @@
 -- A thread, and what a step of it needs, spends and makes.
 use Rattle.std.specs.Prelude.{ℕ, ℤ, pos, int_lt, Bool, not, ◌&&◌, if◌then◌else◌, List, [], ◌∷◌, ◌++◌, map, Option, Some, None, option_map, Result, Ok, Err}
 use Rattle.std.specs.List.{filter_map, find}
-use Rattle.names.specs.declared.party.Party.{Party}
-use Rattle.names.specs.declared.party.Party.TheVariants.{Address, Role}
-use Rattle.names.specs.declared.token.Token.{Token}
+use Rattle.contract.specs.Names.declared.party.Party.{Party}
+use Rattle.contract.specs.Names.declared.party.Party.TheVariants.{Address, Role}
+use Rattle.contract.specs.Names.declared.token.Token.{Token}
 use Rattle.contract.specs.declared.fault.SemFault.{SemFault}
 use Rattle.contract.specs.declared.input.Input.{Input}
 use Rattle.contract.specs.declared.input.Input.TheVariants.{Deposit}
 use Rattle.contract.specs.declared.interval.Interval.{Interval}
-use Rattle.semantics.specs.Walk.{Standing, Walk, answer_of}
-use Rattle.semantics.specs.Computed.{computed}
-use Rattle.table.specs.Flat.{is_close}
-use Rattle.machine.specs.declared.datum.Datum.{Datum}
-use Rattle.eutxo_types.specs.declared.output.Output.{Output}
-use Rattle.eutxo_types.specs.Digests.{datum_hash}
-use Rattle.eutxo_types.specs.Parts.{same_bytes, contract_in, ContractLock}
-use Rattle.eutxo.specs.Rules.{has_signed}
-use Rattle.roles.specs.Sums.{sums_of}
-use Rattle.roles.specs.Terms.{Terms, terms_of}
-use Rattle.roles.specs.Steps.{same_amounts, role_token, actor, continuation, due_outputs, next_datum}
+use Rattle.ledger.specs.Semantics.Walk.{Standing, Walk, answer_of}
+use Rattle.ledger.specs.Semantics.Computed.{computed}
+use Rattle.ledger.specs.Table.Flat.{is_close}
+use Rattle.ledger.specs.Machine.declared.datum.Datum.{Datum}
+use Rattle.ledger.specs.EutxoTypes.declared.output.Output.{Output}
+use Rattle.ledger.specs.EutxoTypes.Digests.{datum_hash}
+use Rattle.ledger.specs.EutxoTypes.Parts.{same_bytes, contract_in, ContractLock}
+use Rattle.ledger.specs.Eutxo.Rules.{has_signed}
+use Rattle.ledger.specs.Roles.Sums.{sums_of}
+use Rattle.ledger.specs.Roles.Terms.{Terms, terms_of}
+use Rattle.ledger.specs.Roles.Steps.{same_amounts, role_token, actor, continuation, due_outputs, next_datum}
 use Rattle.ledger.specs.declared.look.Look.{Look}
 use Rattle.ledger.specs.declared.look.ThreadOutput.{ThreadOutput}
 use Rattle.ledger.specs.declared.look.Unspent.{Unspent}

@@ -2,9 +2,7 @@
 ghost use Rattle.std.specs.Prelude.{◌≡◌};
 ghost use Rattle.builder_spec.specs.declared.fault.BuildFault.TheVariants as faults;
 
-use collections::{Memory, Same, TryClone};
-use contract::SemFault;
-use names::{Party, Token};
+use contract::{Memory, Party, Same, SemFault, Token, TryClone};
 use std::alloc::{AllocError, AllocFailed};
 use thiserror::Error;
 

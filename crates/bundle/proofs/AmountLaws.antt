@@ -8,7 +8,7 @@ use Rattle.std.specs.Ordering.{int_eq, is_eq, eq_by_cmp}
 use Rattle.std.specs.declared.cmp.Ordering.TheVariants.{Less, Equal, Greater}
 use Rattle.std.specs.FinMap.{entries, entries_sorted, get, insert, remove, get-insert, get-remove, get-entries}
 use Rattle.std.specs.FinMap.Entries.{find, is_sorted}
-use Rattle.collections.proofs.Places.{second, third, find_below, below_equal}
+use Rattle.names.proofs.FromCollections.Places.{second, third, find_below, below_equal}
 use Rattle.names.specs.declared.token.Token.{Token}
 use Rattle.names.specs.Orders.{token_cmp}
 use Rattle.names.specs.Totals.{token_total}

@@ -3,7 +3,7 @@ use Rattle.std.proofs.Common.{◌≡◌, ℤ, ◌+ℤ◌, ◌-ℤ◌, Bool, true
 use Rattle.std.proofs.Math.Dec.{T}
 use Rattle.std.specs.Prelude.{int_lt}
 use Rattle.std.specs.FinMap.Entries.{is_sorted}
-use Rattle.collections.proofs.Places.{second, third}
+use Rattle.names.proofs.FromCollections.Places.{second, third}
 use Rattle.names.specs.declared.token.Token.{Token}
 use Rattle.names.specs.Orders.{token_cmp}
 use Rattle.bundle.specs.Bundles.{Amounts, amount_of, with_amount, each, is_large, any_large, first_short, AllPositive}

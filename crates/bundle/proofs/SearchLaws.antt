@@ -7,8 +7,8 @@ use Rattle.std.specs.Ordering.{ordering_index, ordering_reverse}
 use Rattle.std.specs.declared.cmp.Ordering.{Ordering}
 use Rattle.std.specs.declared.cmp.Ordering.TheVariants.{Less, Equal, Greater}
 use Rattle.std.specs.FinMap.Entries.{is_sorted}
-use Rattle.collections.proofs.Places.{third, IsAt, IsGap}
-use Rattle.collections.proofs.Halving.{rises}
+use Rattle.names.proofs.FromCollections.Places.{third, IsAt, IsGap}
+use Rattle.names.proofs.FromCollections.Halving.{rises}
 use Rattle.names.specs.declared.token.Token.{Token}
 use Rattle.names.specs.Orders.{token_cmp}
 use Rattle.names.specs.Totals.{token_total}

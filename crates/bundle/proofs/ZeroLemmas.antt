@@ -8,8 +8,8 @@ use Rattle.std.specs.Ordering.{int_eq, is_eq, eq_by_cmp}
 use Rattle.std.specs.declared.cmp.Ordering.TheVariants.{Less, Equal, Greater}
 use Rattle.std.specs.FinMap.{from_sorted, get, insert, remove, get-from_sorted, get-insert, get-remove, same_map}
 use Rattle.std.specs.FinMap.Entries.{by_order, find, put, below_all, is_sorted, is_sorted-put, find-put}
-use Rattle.collections.proofs.Places.{both, second, third, below_equal, find_below}
-use Rattle.collections.proofs.Maps.{put_is_insert}
+use Rattle.names.proofs.FromCollections.Places.{both, second, third, below_equal, find_below}
+use Rattle.names.proofs.FromCollections.Maps.{put_is_insert}
 use Rattle.names.specs.declared.token.Token.{Token}
 use Rattle.names.specs.Orders.{token_cmp}
 use Rattle.names.specs.Totals.{token_total}

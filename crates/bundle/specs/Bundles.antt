@@ -4,7 +4,7 @@ use Rattle.std.specs.Option.{unwrap_or, MatchOption}
 use Rattle.std.specs.Ordering.{int_eq}
 use Rattle.std.specs.FinMap as map
 use Rattle.std.specs.FinMap.{FinMap}
-pub use Rattle.collections.specs.Positive.{AllPositive}
+pub use Rattle.names.specs.Collections.Positive.{AllPositive}
 use Rattle.bundle.specs.declared.fault.BundleFault.{BundleFault}
 use Rattle.bundle.specs.declared.fault.BundleFault.TheVariants as faults
 use Rattle.names.specs.declared.token.Token.{Token}

@@ -1,6 +1,6 @@
 -- Sums of what a list holds of one token: whole numbers without bounds.
 use Rattle.std.specs.Prelude.{ℤ, List}
-use Rattle.collections.specs.Total.{total}
+use Rattle.names.specs.Collections.Total.{total}
 use Rattle.names.specs.declared.token.Token.{Token}
 use Rattle.bundle.specs.Bundles.{Amounts, amount_of}
 

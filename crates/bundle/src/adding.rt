@@ -8,8 +8,8 @@ ghost use Rattle.bundle.specs.WalksSupport.{amount_in, gained, AllBefore, NoneAf
 
 use crate::bundle::Bundle;
 use crate::walk::{Entry, amount_at, copy_all, is_at, put_copy, skip_before};
-use collections::{Memory, TryClone};
 use names::Token;
+use names::collections::{Memory, TryClone};
 
 /// Whether the sum of a token lies above 2^127 - 1.
 pub(crate) fn is_too_large(held: &Bundle, more: &Bundle) -> bool

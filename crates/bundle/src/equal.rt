@@ -3,7 +3,7 @@ ghost use Rattle.std.specs.Prelude.{◌≡◌};
 
 use crate::bundle::Bundle;
 use crate::walk::copy_all;
-use collections::{Memory, Same, TryClone, same_entries};
+use names::collections::{Memory, Same, TryClone, same_entries};
 use std::hash::{Hash, Hasher};
 
 impl TryClone for Bundle {
@@ -22,8 +22,8 @@ impl Same for Bundle {
 }
 
 impl PartialEq for Bundle {
-    ghost use Rattle.collections.specs.Same.{same_by};
-    ghost use Rattle.collections.proofs.SameLaws.{same_by-partial};
+    ghost use Rattle.names.specs.Collections.Same.{same_by};
+    ghost use Rattle.names.proofs.FromCollections.SameLaws.{same_by-partial};
     ghost use Rattle.bundle.specs.contracts.bundle.Bundle as it;
 
     ghost eq = { same_by it.the_row.coded };
@@ -36,14 +36,14 @@ impl PartialEq for Bundle {
 }
 
 impl Eq for Bundle {
-    ghost use Rattle.collections.proofs.SameLaws.{same_by-equiv};
+    ghost use Rattle.names.proofs.FromCollections.SameLaws.{same_by-equiv};
     ghost use Rattle.bundle.specs.contracts.bundle.Bundle as it;
 
     ghost laws = { same_by-equiv it.the_row.coded };
 }
 
 impl Hash for Bundle {
-    ghost use Rattle.collections.proofs.SameLaws.{same_by_decides};
+    ghost use Rattle.names.proofs.FromCollections.SameLaws.{same_by_decides};
     ghost use Rattle.std.proofs.Common.{ap};
     ghost use Rattle.bundle.specs.HashingSupport.{bundle_fed};
     ghost use Rattle.bundle.specs.contracts.bundle.Bundle as it;

@@ -6,7 +6,7 @@ ghost use Rattle.std.specs.Ordering.{is_gt, is_eq};
 ghost use Rattle.names.specs.Orders.{token_cmp};
 ghost use Rattle.bundle.specs.WalksSupport.{amount_in, AllBefore, StartsFrom, starts_with};
 
-use collections::{Memory, TryClone};
+use names::collections::{Memory, TryClone};
 use names::{Token, compare_tokens};
 
 /// A token and how much there is of it, in the token's smallest unit.

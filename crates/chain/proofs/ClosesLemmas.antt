@@ -3,30 +3,30 @@ use Rattle.std.proofs.Common.{◌≡◌, ℕ, true, List, refl, sym, ◌∙◌, 
 use Rattle.std.specs.List.{slice_get}
 use Rattle.std.proofs.lemmas.List.Elements.{All-get_or}
 use Rattle.std.proofs.lemmas.Option.{slice_get_within, get_or_from_slice_get}
-use Rattle.eutxo_types.specs.declared.output.Output.{Output}
-use Rattle.eutxo_types.specs.declared.output_ref.OutputRef.{OutputRef}
-use Rattle.eutxo_types.specs.Fitting.{OutputFits, TxFits}
-use Rattle.eutxo_types.specs.Parts.{is_contract}
-use Rattle.roles.specs.declared.published.Published.{Published}
-use Rattle.ledger.specs.declared.ask.Ask.{Ask}
-use Rattle.ledger.specs.declared.look.ThreadOutput.{ThreadOutput}
-use Rattle.ledger_laws.specs.Past.{Past, unspent_at}
-use Rattle.ledger_laws.specs.Sound.{AreKeys}
-use Rattle.ledger_laws.proofs.AcceptedLaws.{no_contract_first}
-use Rattle.ledger_laws.proofs.PartLaws.{is_contract_so}
-use Rattle.ledger_laws.proofs.PlainLaws.{same_some}
-use Rattle.ledger_laws.proofs.ReferenceLaws.{maker, unspent_so}
-use Rattle.builder_spec.specs.Closings.{closing}
-use Rattle.builder_spec.specs.Steps.{Thread, thread_of, look_thread}
+use Rattle.ledger_views.specs.EutxoTypes.declared.output.Output.{Output}
+use Rattle.ledger_views.specs.EutxoTypes.declared.output_ref.OutputRef.{OutputRef}
+use Rattle.ledger_views.specs.EutxoTypes.Fitting.{OutputFits, TxFits}
+use Rattle.ledger_views.specs.EutxoTypes.Parts.{is_contract}
+use Rattle.ledger_views.specs.Roles.declared.published.Published.{Published}
+use Rattle.ledger_views.specs.Ledger.declared.ask.Ask.{Ask}
+use Rattle.ledger_views.specs.Ledger.declared.look.ThreadOutput.{ThreadOutput}
+use Rattle.ledger_views.specs.LedgerLaws.Past.{Past, unspent_at}
+use Rattle.ledger_views.specs.LedgerLaws.Sound.{AreKeys}
+use Rattle.ledger_views.proofs.FromLedgerLaws.AcceptedLaws.{no_contract_first}
+use Rattle.ledger_views.proofs.FromLedgerLaws.PartLaws.{is_contract_so}
+use Rattle.ledger_views.proofs.FromLedgerLaws.PlainLaws.{same_some}
+use Rattle.ledger_views.proofs.FromLedgerLaws.ReferenceLaws.{maker, unspent_so}
+use Rattle.ledger_views.specs.BuilderSpec.Closings.{closing}
+use Rattle.ledger_views.specs.BuilderSpec.Steps.{Thread, thread_of, look_thread}
 use Rattle.builder_laws.specs.AfterLast.{AnyoneCloses}
 use Rattle.builder_laws.specs.ShownThreads.{IsShown, ShownThreadsAreCurrent}
-use Rattle.ledger_spec.specs.AcceptedAt.{Accepts, IsOpenAfter}
-use Rattle.ledger_spec.specs.ThreadsShown.{AnyoneClosesShown}
-use Rattle.ledger_spec.specs.Headline.{AcceptsBuilt}
-use Rattle.ledger_spec.specs.Replay.{Course, world, past_of, published, published_at}
-use Rattle.ledger_spec.specs.Views.{thread_shown, look}
-use Rattle.ledger_spec.proofs.PublishingLaws.{found_under}
-use Rattle.ledger_spec.proofs.StepLaws.{step_accepted}
+use Rattle.ledger_views.specs.LedgerSpec.AcceptedAt.{Accepts, IsOpenAfter}
+use Rattle.ledger_views.specs.LedgerSpec.ThreadsShown.{AnyoneClosesShown}
+use Rattle.ledger_views.specs.LedgerSpec.Headline.{AcceptsBuilt}
+use Rattle.ledger_views.specs.LedgerSpec.Replay.{Course, world, past_of, published, published_at}
+use Rattle.ledger_views.specs.LedgerSpec.Views.{thread_shown, look}
+use Rattle.ledger_views.proofs.FromLedgerSpec.PublishingLaws.{found_under}
+use Rattle.ledger_views.proofs.FromLedgerSpec.StepLaws.{step_accepted}
 use Rattle.chain.proofs.HeadlineLemmas.{IsSoundCourse, shown_so}
 
 all_at : {A : Type 0} (P : A → Type 0) (xs : List A) (n : ℕ) (x : A) → All P xs → slice_get xs n ≡ Some x → P x

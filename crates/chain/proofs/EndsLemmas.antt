@@ -1,25 +1,25 @@
 -- A look shows where a thread ends, at the state in which its last transaction left it.
 use Rattle.std.proofs.Common.{◌≡◌, ℕ, List, refl, sym, ◌∙◌, ap, subst, Option, Some, None, ◌⊎◌, inl, inr}
 use Rattle.std.specs.Option.{option_map}
-use Rattle.eutxo_types.specs.declared.output.Output.{Output}
-use Rattle.eutxo_types.specs.declared.output_ref.OutputRef.{OutputRef}
-use Rattle.eutxo_types.specs.Parts.{script_in, ContractLock, contract_in, Instance, lock_of}
-use Rattle.eutxo.specs.Laws.{FoundIsEnough}
-use Rattle.roles.specs.declared.published.Published.{Published}
-use Rattle.roles.specs.Steps.{marlowe}
-use Rattle.ledger.specs.declared.ask.Ask.{Ask}
-use Rattle.ledger_laws.specs.Laws.{ThreadsAreRuns, ThreadsEndWithRuns, ContractsAreOfTables, EndsAreUnspent}
-use Rattle.ledger_laws.specs.Past.{Past, unspent_at}
-use Rattle.ledger_laws.specs.Threads.{thread, thread_end, IsMade, IsStart, StartsThread, Member, Carries, contract_after, state_after}
-use Rattle.ledger_laws.proofs.PartLaws.{script_so}
-use Rattle.ledger_laws.proofs.PlainLaws.{same_some}
-use Rattle.builder_spec.specs.Steps.{Thread, thread_terms, thread_of, look_thread}
+use Rattle.ledger_views.specs.EutxoTypes.declared.output.Output.{Output}
+use Rattle.ledger_views.specs.EutxoTypes.declared.output_ref.OutputRef.{OutputRef}
+use Rattle.ledger_views.specs.EutxoTypes.Parts.{script_in, ContractLock, contract_in, Instance, lock_of}
+use Rattle.ledger_views.specs.Eutxo.Laws.{FoundIsEnough}
+use Rattle.ledger_views.specs.Roles.declared.published.Published.{Published}
+use Rattle.ledger_views.specs.Roles.Steps.{marlowe}
+use Rattle.ledger_views.specs.Ledger.declared.ask.Ask.{Ask}
+use Rattle.ledger_views.specs.LedgerLaws.Laws.{ThreadsAreRuns, ThreadsEndWithRuns, ContractsAreOfTables, EndsAreUnspent}
+use Rattle.ledger_views.specs.LedgerLaws.Past.{Past, unspent_at}
+use Rattle.ledger_views.specs.LedgerLaws.Threads.{thread, thread_end, IsMade, IsStart, StartsThread, Member, Carries, contract_after, state_after}
+use Rattle.ledger_views.proofs.FromLedgerLaws.PartLaws.{script_so}
+use Rattle.ledger_views.proofs.FromLedgerLaws.PlainLaws.{same_some}
+use Rattle.ledger_views.specs.BuilderSpec.Steps.{Thread, thread_terms, thread_of, look_thread}
 use Rattle.builder_laws.specs.ShownThreads.{ShownThreadsAreCurrent}
-use Rattle.ledger_spec.specs.ThreadsShown.{ShowsWhereThreadsStand, ShowsWhatIsNotOver}
-use Rattle.ledger_spec.specs.Replay.{Course, World, world, past_of, published, published_at}
-use Rattle.ledger_spec.specs.Views.{EachStartIsTold, end_of, made_datum, object_under, thread_output_at, thread_shown, look}
-use Rattle.ledger_spec.proofs.InstanceLaws.{made_instance}
-use Rattle.ledger_spec.proofs.PublishingLaws.{found_under}
+use Rattle.ledger_views.specs.LedgerSpec.ThreadsShown.{ShowsWhereThreadsStand, ShowsWhatIsNotOver}
+use Rattle.ledger_views.specs.LedgerSpec.Replay.{Course, World, world, past_of, published, published_at}
+use Rattle.ledger_views.specs.LedgerSpec.Views.{EachStartIsTold, end_of, made_datum, object_under, thread_output_at, thread_shown, look}
+use Rattle.ledger_views.proofs.FromLedgerSpec.InstanceLaws.{made_instance}
+use Rattle.ledger_views.proofs.FromLedgerSpec.PublishingLaws.{found_under}
 use Rattle.chain.proofs.HeadlineLemmas.{IsSoundCourse}
 use Rattle.chain.proofs.ShownLemmas.{shown_thread}
 

@@ -2,40 +2,40 @@
 use Rattle.std.proofs.Common.{◌≡◌, ℕ, zero, suc, ℤ, List, [], ◌∷◌, refl, sym, ◌∙◌, ap, subst, take, Option, Some, None, All}
 use Rattle.std.specs.List.{slice_get}
 use Rattle.std.specs.Option.{option_map}
-use Rattle.eutxo_types.specs.declared.fault.TxFault.{TxFault}
-use Rattle.eutxo_types.specs.declared.lock.Lock.{Lock}
-use Rattle.eutxo_types.specs.declared.lock.Lock.TheVariants.{Key, Payout, Contract}
-use Rattle.eutxo_types.specs.declared.output.Output.{Output}
-use Rattle.eutxo_types.specs.declared.output_ref.OutputRef.{OutputRef}
-use Rattle.eutxo_types.specs.declared.tx.Tx.{Tx}
-use Rattle.eutxo_types.specs.Fitting.{TxFits}
-use Rattle.eutxo_types.specs.Parts.{script_in, contract_in, Instance}
-use Rattle.eutxo.specs.Judgement.{Moment}
-use Rattle.eutxo.specs.Local.{verdict_of}
-use Rattle.roles.specs.declared.published.Published.{Published}
-use Rattle.roles.specs.Steps.{marlowe}
-use Rattle.ledger.specs.declared.call.Reply.{Reply}
-use Rattle.ledger.specs.declared.call.Reply.TheVariants as answer
-use Rattle.ledger.specs.declared.call.Ticketed.{Ticketed}
-use Rattle.ledger.specs.declared.look.ThreadOutput.{ThreadOutput}
-use Rattle.ledger_laws.specs.Laws.{AreTables}
-use Rattle.ledger_laws.proofs.PlainLaws.{same_some}
-use Rattle.ledger_laws.specs.Past.{Past, unspent_at}
-use Rattle.ledger_laws.specs.Sound.{IsSound}
-use Rattle.builder_spec.specs.Parts.{ArePublished, layout_steps}
-use Rattle.builder_spec.specs.Starts.{layout_start}
-use Rattle.builder_spec.specs.Claims.{layout_claim}
+use Rattle.ledger_views.specs.EutxoTypes.declared.fault.TxFault.{TxFault}
+use Rattle.ledger_views.specs.EutxoTypes.declared.lock.Lock.{Lock}
+use Rattle.ledger_views.specs.EutxoTypes.declared.lock.Lock.TheVariants.{Key, Payout, Contract}
+use Rattle.ledger_views.specs.EutxoTypes.declared.output.Output.{Output}
+use Rattle.ledger_views.specs.EutxoTypes.declared.output_ref.OutputRef.{OutputRef}
+use Rattle.ledger_views.specs.EutxoTypes.declared.tx.Tx.{Tx}
+use Rattle.ledger_views.specs.EutxoTypes.Fitting.{TxFits}
+use Rattle.ledger_views.specs.EutxoTypes.Parts.{script_in, contract_in, Instance}
+use Rattle.ledger_views.specs.Eutxo.Judgement.{Moment}
+use Rattle.ledger_views.specs.Eutxo.Local.{verdict_of}
+use Rattle.ledger_views.specs.Roles.declared.published.Published.{Published}
+use Rattle.ledger_views.specs.Roles.Steps.{marlowe}
+use Rattle.ledger_views.specs.Ledger.declared.call.Reply.{Reply}
+use Rattle.ledger_views.specs.Ledger.declared.call.Reply.TheVariants as answer
+use Rattle.ledger_views.specs.Ledger.declared.call.Ticketed.{Ticketed}
+use Rattle.ledger_views.specs.Ledger.declared.look.ThreadOutput.{ThreadOutput}
+use Rattle.ledger_views.specs.LedgerLaws.Laws.{AreTables}
+use Rattle.ledger_views.proofs.FromLedgerLaws.PlainLaws.{same_some}
+use Rattle.ledger_views.specs.LedgerLaws.Past.{Past, unspent_at}
+use Rattle.ledger_views.specs.LedgerLaws.Sound.{IsSound}
+use Rattle.ledger_views.specs.BuilderSpec.Parts.{ArePublished, layout_steps}
+use Rattle.ledger_views.specs.BuilderSpec.Starts.{layout_start}
+use Rattle.ledger_views.specs.BuilderSpec.Claims.{layout_claim}
 use Rattle.builder_laws.specs.Accepting.{PartsAreAccepted, StartsAreAccepted, ClaimsAreAccepted}
 use Rattle.builder_laws.specs.AfterPasts.{PartsAreAcceptedAfter, StartsAreAcceptedAfter, ClaimsAreAcceptedAfter}
 use Rattle.builder_laws.specs.ShownThreads.{IsShown, ShownThreadsAreCurrent}
-use Rattle.ledger_spec.specs.Replay.{Course, Pending, pending_entry, World, world, past_of, published, published_at, moment_of}
-use Rattle.ledger_spec.specs.Views.{instance_at, thread_output, object_under, thread_output_in, thread_output_at, end_of, thread_shown, look}
-use Rattle.ledger_spec.specs.Calls.{fault_on, submit_reply, with_accepted_unless, round_verdicts, after_places}
-use Rattle.ledger_spec.proofs.InstanceLaws.{instance_made}
-use Rattle.ledger_spec.proofs.PublishingLaws.{found_under}
-use Rattle.ledger_spec.specs.AcceptedAt.{Accepts, IsOpenAfter, AcceptsPlace, IsOpenAtPlace}
-use Rattle.ledger_spec.specs.ThreadsShown.{ShowsCurrentThreads}
-use Rattle.ledger_spec.specs.Headline.{AcceptsBuilt}
+use Rattle.ledger_views.specs.LedgerSpec.Replay.{Course, Pending, pending_entry, World, world, past_of, published, published_at, moment_of}
+use Rattle.ledger_views.specs.LedgerSpec.Views.{instance_at, thread_output, object_under, thread_output_in, thread_output_at, end_of, thread_shown, look}
+use Rattle.ledger_views.specs.LedgerSpec.Calls.{fault_on, submit_reply, with_accepted_unless, round_verdicts, after_places}
+use Rattle.ledger_views.proofs.FromLedgerSpec.InstanceLaws.{instance_made}
+use Rattle.ledger_views.proofs.FromLedgerSpec.PublishingLaws.{found_under}
+use Rattle.ledger_views.specs.LedgerSpec.AcceptedAt.{Accepts, IsOpenAfter, AcceptsPlace, IsOpenAtPlace}
+use Rattle.ledger_views.specs.LedgerSpec.ThreadsShown.{ShowsCurrentThreads}
+use Rattle.ledger_views.specs.LedgerSpec.Headline.{AcceptsBuilt}
 
 -- what a course accepted is sound and fits its spelling, and what it published are tables
 pub record IsSoundCourse (c : Course) : Type 0 where

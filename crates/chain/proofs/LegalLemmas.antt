@@ -4,30 +4,30 @@ use Rattle.std.specs.Prelude.{if◌then◌else◌, is_some}
 use Rattle.std.specs.List.{slice_get}
 use Rattle.std.proofs.Math.Seq.{take-append_seam}
 use Rattle.std.proofs.lemmas.List.Elements.{All-take}
-use Rattle.compiler.specs.declared.fault.CompileFault.{CompileFault}
-use Rattle.eutxo_types.specs.declared.tx.Tx.{Tx}
-use Rattle.eutxo_types.specs.Fitting.{TxFits}
-use Rattle.roles.specs.declared.published.Published.{Published}
-use Rattle.roles.specs.Steps.{marlowe}
-use Rattle.ledger_laws.specs.Laws.{StartIsSound, AfterIsSound, LaterIsSound}
-use Rattle.ledger_laws.specs.Sound.{AreKeys, IsSound, IsMore}
-use Rattle.ledger_laws.proofs.PlainLaws.{get_grown, take_none, take_some, take_whole}
-use Rattle.ledger.specs.declared.call.Call.{Call}
-use Rattle.ledger.specs.declared.call.Call.TheVariants as on
-use Rattle.ledger.specs.declared.call.Reply.{Reply}
-use Rattle.ledger.specs.declared.call.Reply.TheVariants as answer
-use Rattle.ledger.specs.declared.call.Entry.{Entry}
-use Rattle.ledger_spec.specs.Replay.{Replay, World, Course, after_call, count_of, world, past_of, published_at, publication, with_object, published_after, published}
-use Rattle.ledger.specs.Replies.{is_published}
-use Rattle.ledger_spec.specs.Calls.{same_publication, publish_reply_beside, publish_reply, reply_to, published_with}
-use Rattle.ledger_spec.specs.Genesis.{SumsFit}
-use Rattle.ledger_spec.specs.Legal.{Follows, IsLegal, before_entry, with_entry, entry_of}
-use Rattle.chain_index.specs.Contents.{Contents, Indexed, contents_of, beginning}
-use Rattle.ledger_kept.specs.Kept.{Tally, IsTally, IsIndexOf, world_with}
+use Rattle.ledger_views.specs.Compiler.declared.fault.CompileFault.{CompileFault}
+use Rattle.ledger_views.specs.EutxoTypes.declared.tx.Tx.{Tx}
+use Rattle.ledger_views.specs.EutxoTypes.Fitting.{TxFits}
+use Rattle.ledger_views.specs.Roles.declared.published.Published.{Published}
+use Rattle.ledger_views.specs.Roles.Steps.{marlowe}
+use Rattle.ledger_views.specs.LedgerLaws.Laws.{StartIsSound, AfterIsSound, LaterIsSound}
+use Rattle.ledger_views.specs.LedgerLaws.Sound.{AreKeys, IsSound, IsMore}
+use Rattle.ledger_views.proofs.FromLedgerLaws.PlainLaws.{get_grown, take_none, take_some, take_whole}
+use Rattle.ledger_views.specs.Ledger.declared.call.Call.{Call}
+use Rattle.ledger_views.specs.Ledger.declared.call.Call.TheVariants as on
+use Rattle.ledger_views.specs.Ledger.declared.call.Reply.{Reply}
+use Rattle.ledger_views.specs.Ledger.declared.call.Reply.TheVariants as answer
+use Rattle.ledger_views.specs.Ledger.declared.call.Entry.{Entry}
+use Rattle.ledger_views.specs.LedgerSpec.Replay.{Replay, World, Course, after_call, count_of, world, past_of, published_at, publication, with_object, published_after, published}
+use Rattle.ledger_views.specs.Ledger.Replies.{is_published}
+use Rattle.ledger_views.specs.LedgerSpec.Calls.{same_publication, publish_reply_beside, publish_reply, reply_to, published_with}
+use Rattle.ledger_views.specs.LedgerSpec.Genesis.{SumsFit}
+use Rattle.ledger_views.specs.LedgerSpec.Legal.{Follows, IsLegal, before_entry, with_entry, entry_of}
+use Rattle.ledger_views.specs.ChainIndex.Contents.{Contents, Indexed, contents_of, beginning}
+use Rattle.ledger_views.specs.LedgerKept.Kept.{Tally, IsTally, IsIndexOf, world_with}
 use Rattle.chain.specs.ChainSupport.{IsKept}
-use Rattle.ledger_spec.proofs.CallsLaws.{accepted_before}
-use Rattle.ledger_spec.proofs.ReplayLaws.{replay_after}
-use Rattle.ledger_spec.proofs.PublishingLaws.{with_stays, published_two}
+use Rattle.ledger_views.proofs.FromLedgerSpec.CallsLaws.{accepted_before}
+use Rattle.ledger_views.proofs.FromLedgerSpec.ReplayLaws.{replay_after}
+use Rattle.ledger_views.proofs.FromLedgerSpec.PublishingLaws.{with_stays, published_two}
 use Rattle.chain.proofs.SoundLemmas.{course_so}
 
 -- what is published by the reply of the table

@@ -5,3 +5,4 @@ mod ShownLemmas
 mod RunsLemmas
 mod EndsLemmas
 mod ClosesLemmas
+pub mod FromLedgerSpec

@@ -1,15 +1,15 @@
 -- The run of a thread is one of the contract that an entry published.
 use Rattle.std.proofs.Common.{◌≡◌, ℕ, List, subst, Option, Some}
 use Rattle.contract.specs.Tree.{ContractTree}
-use Rattle.eutxo_types.specs.declared.output_ref.OutputRef.{OutputRef}
-use Rattle.roles.specs.declared.published.Published.{Published}
-use Rattle.roles.specs.Steps.{marlowe}
-use Rattle.ledger.specs.declared.call.Entry.{Entry}
-use Rattle.ledger_laws.specs.Laws.{EachIsARun, IsOneRun}
-use Rattle.ledger_laws.specs.Past.{Past}
-use Rattle.ledger_laws.specs.Threads.{BringsWhatWasMade}
-use Rattle.ledger_spec.specs.Headline.{EachIsARunOfItsContract, EachIsJustOneRun}
-use Rattle.ledger_spec.specs.Publishing.{IsPublication}
+use Rattle.ledger_views.specs.EutxoTypes.declared.output_ref.OutputRef.{OutputRef}
+use Rattle.ledger_views.specs.Roles.declared.published.Published.{Published}
+use Rattle.ledger_views.specs.Roles.Steps.{marlowe}
+use Rattle.ledger_views.specs.Ledger.declared.call.Entry.{Entry}
+use Rattle.ledger_views.specs.LedgerLaws.Laws.{EachIsARun, IsOneRun}
+use Rattle.ledger_views.specs.LedgerLaws.Past.{Past}
+use Rattle.ledger_views.specs.LedgerLaws.Threads.{BringsWhatWasMade}
+use Rattle.ledger_views.specs.LedgerSpec.Headline.{EachIsARunOfItsContract, EachIsJustOneRun}
+use Rattle.ledger_views.specs.LedgerSpec.Publishing.{IsPublication}
 
 -- what the root stands for is the entry's contract
 pub runs_of_contracts : (es : List Entry) (known : List ℕ → Option Published) (past : Past) → ((id : List ℕ) (p : Published) → known id ≡ Some p → IsPublication es id p) → EachIsARun known past → EachIsARunOfItsContract es known past

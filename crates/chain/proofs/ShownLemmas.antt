@@ -5,48 +5,48 @@ use Rattle.std.specs.List.{slice_get, list_any, Contains, slice_index_or}
 use Rattle.std.specs.Map.{lookup}
 use Rattle.std.specs.Option.{option_map}
 use Rattle.std.proofs.lemmas.List.Folds.{list_any-append}
-use Rattle.eutxo_types.specs.declared.lock.Lock.{Lock}
-use Rattle.eutxo_types.specs.declared.lock.Lock.TheVariants.{Key, Payout, Contract}
-use Rattle.machine.specs.declared.datum.Datum.{Datum}
-use Rattle.eutxo_types.specs.declared.output.Output.{Output}
-use Rattle.eutxo_types.specs.declared.output_ref.OutputRef.{OutputRef}
-use Rattle.eutxo_types.specs.declared.output_ref.OutputRef.TheVariants.{Made}
-use Rattle.eutxo_types.specs.declared.tx.Tx.{Tx}
-use Rattle.eutxo_types.specs.Ids.{id_of}
-use Rattle.eutxo.specs.Laws.{FoundIsEnough}
-use Rattle.eutxo_types.specs.Parts.{same_ref, is_contract, script_in, Instance}
-use Rattle.roles.specs.declared.published.Published.{Published}
-use Rattle.ledger.specs.declared.ask.Ask.{Ask}
-use Rattle.ledger.specs.declared.call.Call.{Call}
-use Rattle.ledger.specs.declared.call.Call.TheVariants as on
-use Rattle.ledger.specs.declared.call.Entry.{Entry}
-use Rattle.ledger.specs.declared.call.Reply.{Reply}
-use Rattle.ledger.specs.declared.call.Reply.TheVariants as answer
-use Rattle.ledger.specs.declared.look.Look.{Look}
-use Rattle.ledger.specs.declared.look.ThreadOutput.{ThreadOutput}
-use Rattle.ledger.specs.declared.look.Unspent.{Unspent}
-use Rattle.ledger_laws.specs.Past.{Past, unspent, unspent_at, is_input_of, is_spent}
-use Rattle.ledger_laws.specs.Sound.{AreKeys, IsAdmitted, IsSound, IsMore}
-use Rattle.roles.specs.Steps.{marlowe}
-use Rattle.ledger_laws.specs.Laws.{StartIsSound, AfterIsSound, LaterIsSound, EndsAreUnspent, ThreadsStay}
-use Rattle.ledger_laws.specs.Threads.{next_of, IsMade}
-use Rattle.ledger_laws.proofs.AcceptedLaws.{made_there, still_there, made_published}
-use Rattle.ledger_laws.proofs.MadeLaws.{each_tells}
-use Rattle.ledger_laws.proofs.PartLaws.{contract_of_lock}
-use Rattle.ledger_laws.proofs.PlainLaws.{both_false, same_some, cut_at, take_some, take_twice}
-use Rattle.ledger_laws.proofs.ReferenceLaws.{same_ref_so, unspent_is}
-use Rattle.ledger_laws.proofs.SpineLaws.{reached, reached_append, ends_reached, stays}
-use Rattle.ledger_spec.specs.Legal.{IsLegal, before_entry}
-use Rattle.ledger_spec.specs.Calls.{reply_to}
-use Rattle.ledger_spec.specs.Replay.{Replay, World, Course, after_call, replay_from, world, past_of, published, published_from, published_at}
-use Rattle.ledger_spec.specs.Shown.{ShowsOutput, ShowsWhatWasMade}
-use Rattle.ledger_spec.specs.Views.{is_key_of, is_payout_of, unspent_of, under_locks, starts_in, end_of, made_datum, thread_output, thread_output_at, thread_output_in, object_under, thread_shown, look}
-use Rattle.ledger_spec.proofs.CallsLaws.{GoesOn, accepted_on}
-use Rattle.ledger_spec.proofs.InstanceLaws.{made_instance}
-use Rattle.ledger_spec.proofs.PublishingLaws.{published_two}
-use Rattle.ledger_spec.proofs.PublishingLaws as publishing
-use Rattle.ledger_spec.proofs.ReplayLaws.{replay_two}
-use Rattle.ledger_spec.proofs.StartsLaws.{end_told, end_starts}
+use Rattle.ledger_views.specs.EutxoTypes.declared.lock.Lock.{Lock}
+use Rattle.ledger_views.specs.EutxoTypes.declared.lock.Lock.TheVariants.{Key, Payout, Contract}
+use Rattle.ledger_views.specs.Machine.declared.datum.Datum.{Datum}
+use Rattle.ledger_views.specs.EutxoTypes.declared.output.Output.{Output}
+use Rattle.ledger_views.specs.EutxoTypes.declared.output_ref.OutputRef.{OutputRef}
+use Rattle.ledger_views.specs.EutxoTypes.declared.output_ref.OutputRef.TheVariants.{Made}
+use Rattle.ledger_views.specs.EutxoTypes.declared.tx.Tx.{Tx}
+use Rattle.ledger_views.specs.EutxoTypes.Ids.{id_of}
+use Rattle.ledger_views.specs.Eutxo.Laws.{FoundIsEnough}
+use Rattle.ledger_views.specs.EutxoTypes.Parts.{same_ref, is_contract, script_in, Instance}
+use Rattle.ledger_views.specs.Roles.declared.published.Published.{Published}
+use Rattle.ledger_views.specs.Ledger.declared.ask.Ask.{Ask}
+use Rattle.ledger_views.specs.Ledger.declared.call.Call.{Call}
+use Rattle.ledger_views.specs.Ledger.declared.call.Call.TheVariants as on
+use Rattle.ledger_views.specs.Ledger.declared.call.Entry.{Entry}
+use Rattle.ledger_views.specs.Ledger.declared.call.Reply.{Reply}
+use Rattle.ledger_views.specs.Ledger.declared.call.Reply.TheVariants as answer
+use Rattle.ledger_views.specs.Ledger.declared.look.Look.{Look}
+use Rattle.ledger_views.specs.Ledger.declared.look.ThreadOutput.{ThreadOutput}
+use Rattle.ledger_views.specs.Ledger.declared.look.Unspent.{Unspent}
+use Rattle.ledger_views.specs.LedgerLaws.Past.{Past, unspent, unspent_at, is_input_of, is_spent}
+use Rattle.ledger_views.specs.LedgerLaws.Sound.{AreKeys, IsAdmitted, IsSound, IsMore}
+use Rattle.ledger_views.specs.Roles.Steps.{marlowe}
+use Rattle.ledger_views.specs.LedgerLaws.Laws.{StartIsSound, AfterIsSound, LaterIsSound, EndsAreUnspent, ThreadsStay}
+use Rattle.ledger_views.specs.LedgerLaws.Threads.{next_of, IsMade}
+use Rattle.ledger_views.proofs.FromLedgerLaws.AcceptedLaws.{made_there, still_there, made_published}
+use Rattle.ledger_views.proofs.FromLedgerLaws.MadeLaws.{each_tells}
+use Rattle.ledger_views.proofs.FromLedgerLaws.PartLaws.{contract_of_lock}
+use Rattle.ledger_views.proofs.FromLedgerLaws.PlainLaws.{both_false, same_some, cut_at, take_some, take_twice}
+use Rattle.ledger_views.proofs.FromLedgerLaws.ReferenceLaws.{same_ref_so, unspent_is}
+use Rattle.ledger_views.proofs.FromLedgerLaws.SpineLaws.{reached, reached_append, ends_reached, stays}
+use Rattle.ledger_views.specs.LedgerSpec.Legal.{IsLegal, before_entry}
+use Rattle.ledger_views.specs.LedgerSpec.Calls.{reply_to}
+use Rattle.ledger_views.specs.LedgerSpec.Replay.{Replay, World, Course, after_call, replay_from, world, past_of, published, published_from, published_at}
+use Rattle.ledger_views.specs.LedgerSpec.Shown.{ShowsOutput, ShowsWhatWasMade}
+use Rattle.ledger_views.specs.LedgerSpec.Views.{is_key_of, is_payout_of, unspent_of, under_locks, starts_in, end_of, made_datum, thread_output, thread_output_at, thread_output_in, object_under, thread_shown, look}
+use Rattle.ledger_views.proofs.FromLedgerSpec.CallsLaws.{GoesOn, accepted_on}
+use Rattle.ledger_views.proofs.FromLedgerSpec.InstanceLaws.{made_instance}
+use Rattle.ledger_views.proofs.FromLedgerSpec.PublishingLaws.{published_two}
+use Rattle.ledger_views.proofs.FromLedgerSpec.PublishingLaws as publishing
+use Rattle.ledger_views.proofs.FromLedgerSpec.ReplayLaws.{replay_two}
+use Rattle.ledger_views.proofs.FromLedgerSpec.StartsLaws.{end_told, end_starts}
 use Rattle.chain.proofs.LegalLemmas.{sound_at}
 
 -- ---- what was accepted

@@ -1,22 +1,22 @@
 -- What a chain accepted is sound.
 use Rattle.std.proofs.Common.{◌≡◌, ℕ, List, [], ◌∷◌, ◌++◌, refl, sym, ap, subst, Option, Some, None, take}
-use Rattle.eutxo_types.specs.declared.output.Output.{Output}
-use Rattle.eutxo_types.specs.declared.tx.Tx.{Tx}
-use Rattle.eutxo_types.specs.declared.fault.TxFault.{TxFault}
-use Rattle.roles.specs.declared.published.Published.{Published}
-use Rattle.roles.specs.Steps.{marlowe}
-use Rattle.ledger_laws.specs.Laws.{AfterIsSound, LaterIsSound}
-use Rattle.ledger_laws.specs.Sound.{IsSound}
-use Rattle.ledger_laws.proofs.PlainLaws.{no_more}
-use Rattle.ledger.specs.declared.call.Call.{Call}
-use Rattle.ledger.specs.declared.call.Call.TheVariants as on
-use Rattle.ledger.specs.declared.call.Reply.{Reply}
-use Rattle.ledger_spec.specs.Replay.{Pending, Replay, World, Course, world, past_of, published_at, published, publication, with_object, after_call, accepted_among, replay}
-use Rattle.ledger_spec.specs.Calls.{submit_reply, with_accepted, with_accepted_unless, fault_on, round_verdicts, reply_to, published_with}
-use Rattle.ledger_spec.specs.Legal.{with_entry, entry_of}
-use Rattle.ledger_spec.proofs.ReplayLaws.{replay_after}
-use Rattle.ledger_spec.proofs.CallsLaws.{after_advance, after_enqueue, only_first, one_kept}
-use Rattle.ledger_spec.proofs.PublishingLaws.{with_stays}
+use Rattle.ledger_views.specs.EutxoTypes.declared.output.Output.{Output}
+use Rattle.ledger_views.specs.EutxoTypes.declared.tx.Tx.{Tx}
+use Rattle.ledger_views.specs.EutxoTypes.declared.fault.TxFault.{TxFault}
+use Rattle.ledger_views.specs.Roles.declared.published.Published.{Published}
+use Rattle.ledger_views.specs.Roles.Steps.{marlowe}
+use Rattle.ledger_views.specs.LedgerLaws.Laws.{AfterIsSound, LaterIsSound}
+use Rattle.ledger_views.specs.LedgerLaws.Sound.{IsSound}
+use Rattle.ledger_views.proofs.FromLedgerLaws.PlainLaws.{no_more}
+use Rattle.ledger_views.specs.Ledger.declared.call.Call.{Call}
+use Rattle.ledger_views.specs.Ledger.declared.call.Call.TheVariants as on
+use Rattle.ledger_views.specs.Ledger.declared.call.Reply.{Reply}
+use Rattle.ledger_views.specs.LedgerSpec.Replay.{Pending, Replay, World, Course, world, past_of, published_at, published, publication, with_object, after_call, accepted_among, replay}
+use Rattle.ledger_views.specs.LedgerSpec.Calls.{submit_reply, with_accepted, with_accepted_unless, fault_on, round_verdicts, reply_to, published_with}
+use Rattle.ledger_views.specs.LedgerSpec.Legal.{with_entry, entry_of}
+use Rattle.ledger_views.proofs.FromLedgerSpec.ReplayLaws.{replay_after}
+use Rattle.ledger_views.proofs.FromLedgerSpec.CallsLaws.{after_advance, after_enqueue, only_first, one_kept}
+use Rattle.ledger_views.proofs.FromLedgerSpec.PublishingLaws.{with_stays}
 
 abbrev SoundWith : List Published → List Output → List Tx → Type 0
 SoundWith ps genesis txs = IsSound marlowe (published_at ps) (record { genesis = genesis; accepted = txs })

@@ -1,10 +1,10 @@
 -- No reader needs this file: what a chain keeps, the invariant behind the clauses.
 use Rattle.std.specs.Prelude.{◌≡◌}
-use Rattle.ledger_spec.specs.Replay.{Course, world}
-use Rattle.ledger_spec.specs.Legal.{IsLegal}
-use Rattle.ledger_spec.specs.Genesis.{SumsFit}
-use Rattle.chain_index.specs.Contents.{Indexed}
-use Rattle.ledger_kept.specs.Kept.{Tally, IsTally, IsIndexOf}
+use Rattle.ledger_views.specs.LedgerSpec.Replay.{Course, world}
+use Rattle.ledger_views.specs.LedgerSpec.Legal.{IsLegal}
+use Rattle.ledger_views.specs.LedgerSpec.Genesis.{SumsFit}
+use Rattle.ledger_views.specs.ChainIndex.Contents.{Indexed}
+use Rattle.ledger_views.specs.LedgerKept.Kept.{Tally, IsTally, IsIndexOf}
 
 -- a tally of a legal history, and an index of what stands, all of which is settled
 pub record IsKept (t : Tally) (index : Indexed) (c : Course) : Type 0 where

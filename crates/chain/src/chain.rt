@@ -1,34 +1,29 @@
 //! The ledger of one thread.
 ghost use Rattle.std.specs.Prelude.{◌≡◌, ℕ, ◌≤◌, ◌++◌, ◌∷◌, [], All, IfOk, IfErr, OnErr, OnOk};
-ghost use Rattle.ledger_laws.specs.Sound.{AreKeys, IsMore};
-ghost use Rattle.eutxo.specs.Judgement.{found};
-ghost use Rattle.ledger_spec.specs.Genesis.{SumsFit, RefusesGenesis};
-ghost use Rattle.eutxo_types.specs.Fitting.{TxFits};
-ghost use Rattle.ledger_spec.specs.Replay.{Course, past_of, world, published, published_at, moment_of};
-ghost use Rattle.ledger_spec.specs.Headline.{StepsAreRuns, BuildsAreAccepted, BothHalves};
-ghost use Rattle.ledger_spec.specs.Calls.{reply_to};
-ghost use Rattle.ledger_spec.specs.Legal.{entry_of, with_entry, before_entry, IsLegal};
-ghost use Rattle.ledger_spec.specs.Records.{AreSteps};
-ghost use Rattle.ledger_spec.specs.Publishing.{InUseByAnother};
-ghost use Rattle.ledger_spec.specs.Standing.{StandsAsTold};
-ghost use Rattle.ledger_spec.specs.Shown.{ShowsWhatWasMade};
-ghost use Rattle.ledger_spec.specs.Views.{pool_front};
-ghost use Rattle.ledger_kept.specs.Kept.{IsTally, IsIndexOf, world_with};
+ghost use Rattle.ledger_views.specs.LedgerLaws.Sound.{AreKeys, IsMore};
+ghost use Rattle.ledger_views.specs.Eutxo.Judgement.{found};
+ghost use Rattle.ledger_views.specs.LedgerSpec.Genesis.{SumsFit, RefusesGenesis};
+ghost use Rattle.ledger_views.specs.EutxoTypes.Fitting.{TxFits};
+ghost use Rattle.ledger_views.specs.LedgerSpec.Replay.{Course, past_of, world, published, published_at, moment_of};
+ghost use Rattle.ledger_views.specs.LedgerSpec.Headline.{StepsAreRuns, BuildsAreAccepted, BothHalves};
+ghost use Rattle.ledger_views.specs.LedgerSpec.Calls.{reply_to};
+ghost use Rattle.ledger_views.specs.LedgerSpec.Legal.{entry_of, with_entry, before_entry, IsLegal};
+ghost use Rattle.ledger_views.specs.LedgerSpec.Records.{AreSteps};
+ghost use Rattle.ledger_views.specs.LedgerSpec.Publishing.{InUseByAnother};
+ghost use Rattle.ledger_views.specs.LedgerSpec.Standing.{StandsAsTold};
+ghost use Rattle.ledger_views.specs.LedgerSpec.Shown.{ShowsWhatWasMade};
+ghost use Rattle.ledger_views.specs.LedgerSpec.Views.{pool_front};
+ghost use Rattle.ledger_views.specs.LedgerKept.Kept.{IsTally, IsIndexOf, world_with};
 
 use crate::laws::both_halves_hold_of_legal_histories;
-use chain_index::Index;
-use collections::{Items, Memory, TryClone};
-use eutxo::{Checked, Resolved, found_is_enough};
-use eutxo_types::{Output, OutputRef, Tx};
-use ledger::{Call, Entry, Reply};
+use contract::{Items, Memory, TryClone};
 use ledger_dispatch::{answer, front, resolution};
-use ledger_kept::{Kept, Tally, check_genesis};
-use ledger_laws::{
-    accepting_is_sound, contracts_end_threads, publishing_is_sound, starting_is_sound, threads_stay,
+use ledger_views::{
+    Call, Checked, Entry, GenesisFault, Index, Kept, Output, OutputRef, Published, Reply, Resolved,
+    StepRecord, Tally, Tx, accepting_is_sound, check_genesis, contracts_end_threads,
+    found_is_enough, legal_histories_stand, publications_are_entries, publishing_is_sound,
+    starting_is_sound, steps_of, threads_stay,
 };
-use ledger_spec::{GenesisFault, StepRecord, legal_histories_stand, publications_are_entries};
-use ledger_views::steps_of;
-use roles::Published;
 use std::alloc::Global;
 use std::marker::Model;
 
@@ -46,11 +41,11 @@ pub struct Chain {
 impl Model for Chain {
     ghost use Rattle.std.specs.Coded.{codes};
     ghost use Rattle.contract.specs.contracts.tree.Contract as trees;
-    ghost use Rattle.eutxo_types.specs.contracts.output.Output as outputs;
-    ghost use Rattle.eutxo_types.specs.contracts.tx.Tx as txs;
-    ghost use Rattle.ledger.specs.contracts.ask.Ask as ask_rows;
-    ghost use Rattle.ledger.specs.contracts.look.Look as look_rows;
-    ghost use Rattle.ledger_spec.specs.Replay.{Course};
+    ghost use Rattle.ledger_views.specs.EutxoTypes.contracts.output.Output as outputs;
+    ghost use Rattle.ledger_views.specs.EutxoTypes.contracts.tx.Tx as txs;
+    ghost use Rattle.ledger_views.specs.Ledger.contracts.ask.Ask as ask_rows;
+    ghost use Rattle.ledger_views.specs.Ledger.contracts.look.Look as look_rows;
+    ghost use Rattle.ledger_views.specs.LedgerSpec.Replay.{Course};
     ghost use Rattle.chain.specs.ChainSupport.{IsKept};
 
     ghost Value = { Course };

@@ -1,19 +1,16 @@
 //! The headline, of every legal history.
-ghost use Rattle.ledger_spec.specs.Headline.{LegalHistoriesHaveBothHalves};
+ghost use Rattle.ledger_views.specs.LedgerSpec.Headline.{LegalHistoriesHaveBothHalves};
 
 use builder_laws::{
     anyone_closes_after_the_last_timeout, bytes_tell_accepted_apart, claims_are_accepted,
     parts_are_accepted, shown_threads_are_current, starts_are_accepted,
 };
-use eutxo::found_is_enough;
-use ledger_laws::{
-    accepting_is_sound, contracts_are_funded, contracts_end_threads, names_are_single,
-    outputs_are_spent_once, outputs_serve_one_contract, parties_are_authorised,
-    publishing_is_sound, starting_is_sound, steps_stand_on_threads, threads_are_runs,
-    tokens_are_preserved,
+use ledger_views::{
+    Published, accepting_is_sound, contracts_are_funded, contracts_end_threads, found_is_enough,
+    names_are_single, outputs_are_spent_once, outputs_serve_one_contract, parties_are_authorised,
+    publications_are_entries, publishing_is_sound, starting_is_sound, starts_are_told,
+    steps_stand_on_threads, threads_are_runs, tokens_are_preserved,
 };
-use ledger_spec::{publications_are_entries, starts_are_told};
-use roles::Published;
 
 /// Both halves of the headline hold of every legal history that began with key outputs and whose accepted transactions
 /// fit their spelling: after the whole of it, and before each of its entries. So they hold of the history of a closed

@@ -10,7 +10,11 @@
 mod chain;
 mod laws;
 
+pub use builder_laws::{
+    Ask, Bundle, Checked, CompileFault, Datum, Lock, Look, Output, OutputRef, Plain, Published,
+    Resolved, Scripts, Shared, Spent, StepAnswer, StepFault, Tx, TxFault, Unspent, Validator,
+    Verdict, check, check_owned, has_signed, publish,
+};
 pub use chain::Chain;
 pub use laws::both_halves_hold_of_legal_histories;
-pub use ledger::{Call, Entry, Reply, Ticketed};
-pub use ledger_spec::{GenesisFault, StepRecord};
+pub use ledger_views::{Call, Entry, GenesisFault, Reply, StepRecord, Ticketed};

@@ -1,15 +1,15 @@
 -- What stands unspent after a history, summed.
 use Rattle.std.proofs.Common.{◌≡◌, ℤ, ◌≤ℤ◌, List, map, Option, sym, ◌∙◌, ap, subst}
 use Rattle.std.specs.List.{flat_map}
-use Rattle.names.specs.declared.token.Token.{Token}
-use Rattle.bundle.specs.Totals.{total_of}
-use Rattle.eutxo_types.specs.declared.output.Output.{Output}
-use Rattle.eutxo_types.specs.declared.output_ref.OutputRef.{OutputRef}
-use Rattle.ledger.specs.declared.call.Entry.{Entry}
-use Rattle.ledger_laws.specs.Laws.{IsPreserved}
-use Rattle.ledger_laws.specs.Past.{unspent}
-use Rattle.ledger_spec.specs.Genesis.{most, SumsFit}
-use Rattle.ledger_spec.specs.Replay.{Course, world, past_of}
+use Rattle.contract.specs.Names.declared.token.Token.{Token}
+use Rattle.ledger_kept.specs.Bundle.Totals.{total_of}
+use Rattle.ledger_kept.specs.EutxoTypes.declared.output.Output.{Output}
+use Rattle.ledger_kept.specs.EutxoTypes.declared.output_ref.OutputRef.{OutputRef}
+use Rattle.ledger_kept.specs.Ledger.declared.call.Entry.{Entry}
+use Rattle.ledger_kept.specs.LedgerLaws.Laws.{IsPreserved}
+use Rattle.ledger_kept.specs.LedgerLaws.Past.{unspent}
+use Rattle.ledger_kept.specs.LedgerSpec.Genesis.{most, SumsFit}
+use Rattle.ledger_kept.specs.LedgerSpec.Replay.{Course, world, past_of}
 use Rattle.play_holdings.specs.declared.holding.Holding.{Holding}
 use Rattle.play_holdings.specs.Holdings.{held_in, AreSums, come_to, of_token}
 use Rattle.chain_holdings.specs.After.{course, shown_at, AreHoldings, AreWhatThereWas}

@@ -4,11 +4,11 @@ use Rattle.std.proofs.lemmas.Int.{ints}
 use Rattle.std.proofs.lemmas.List.{take_more}
 use Rattle.std.proofs.lemmas.Option.{slice_get_read}
 use Rattle.std.specs.Prelude.{slice_get, Some}
-use Rattle.eutxo_types.specs.declared.output.Output.{Output}
-use Rattle.ledger.specs.declared.call.Entry.{Entry}
-use Rattle.ledger_spec.specs.Genesis.{SumsFit, HasLargeSum}
-use Rattle.ledger_spec.specs.Legal.{IsLegal, before_entry, with_entry, entry_of}
-use Rattle.ledger_spec.specs.Replay.{Course}
+use Rattle.ledger_kept.specs.EutxoTypes.declared.output.Output.{Output}
+use Rattle.ledger_kept.specs.Ledger.declared.call.Entry.{Entry}
+use Rattle.ledger_kept.specs.LedgerSpec.Genesis.{SumsFit, HasLargeSum}
+use Rattle.ledger_kept.specs.LedgerSpec.Legal.{IsLegal, before_entry, with_entry, entry_of}
+use Rattle.ledger_kept.specs.LedgerSpec.Replay.{Course}
 
 same_entry : (a b : Entry) → a.seat ≡ b.seat → a.number ≡ b.number → a.call ≡ b.call → a.reply ≡ b.reply → a ≡ b
 same_entry a b p q r s = λ i. record { seat = p i; number = q i; call = r i; reply = s i }

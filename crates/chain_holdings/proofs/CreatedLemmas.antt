@@ -3,13 +3,13 @@ use Rattle.std.proofs.Common.{◌≡◌, ℕ, ◌≤◌, Bool, true, false, not,
 use Rattle.std.proofs.lemmas.List.{drop_all}
 use Rattle.std.specs.Prelude.{is_some}
 use Rattle.std.specs.Map.{lookup}
-use Rattle.eutxo_types.specs.declared.output.Output.{Output}
-use Rattle.eutxo_types.specs.declared.output_ref.OutputRef.{OutputRef}
-use Rattle.eutxo_types.specs.declared.spend.Spend.{Spend}
-use Rattle.eutxo_types.specs.declared.tx.Tx.{Tx}
-use Rattle.eutxo_types.specs.Parts.{same_ref}
-use Rattle.ledger_laws.specs.Past.{Past, created, created_by, created_by_all, is_spent, unspent, unspent_at, with_references}
-use Rattle.ledger_laws.proofs.ReferenceLaws.{unspent_is, same_ref-refl}
+use Rattle.ledger_kept.specs.EutxoTypes.declared.output.Output.{Output}
+use Rattle.ledger_kept.specs.EutxoTypes.declared.output_ref.OutputRef.{OutputRef}
+use Rattle.ledger_kept.specs.EutxoTypes.declared.spend.Spend.{Spend}
+use Rattle.ledger_kept.specs.EutxoTypes.declared.tx.Tx.{Tx}
+use Rattle.ledger_kept.specs.EutxoTypes.Parts.{same_ref}
+use Rattle.ledger_kept.specs.LedgerLaws.Past.{Past, created, created_by, created_by_all, is_spent, unspent, unspent_at, with_references}
+use Rattle.ledger_kept.proofs.FromLedgerLaws.ReferenceLaws.{unspent_is, same_ref-refl}
 use Rattle.chain_holdings.specs.CreatedSupport.{first_there, if_unspent, unspent_among}
 
 abbrev Rows : Type 0

@@ -1,18 +1,18 @@
 -- A look changes nothing that looks show of threads.
 use Rattle.std.proofs.Common.{◌≡◌, ℕ, ℤ, ◌+◌, ◌<◌, List, [], ◌∷◌, ◌++◌, length, map, take, get_or, refl, sym, ◌∙◌, ap, ap₂, Option, Some, None}
 use Rattle.std.proofs.lemmas.List.{take_more}
-use Rattle.eutxo_types.specs.declared.output_ref.OutputRef.{OutputRef}
-use Rattle.roles.specs.declared.published.Published.{Published}
-use Rattle.ledger.specs.declared.ask.Ask.{Ask}
-use Rattle.ledger.specs.declared.call.Call.TheVariants as on
-use Rattle.ledger.specs.declared.call.Entry.{Entry}
-use Rattle.ledger.specs.declared.look.ThreadOutput.{ThreadOutput}
-use Rattle.ledger_laws.specs.Past.{Past, unspent_at}
-use Rattle.ledger_spec.specs.Legal.{with_entry, entry_of}
-use Rattle.ledger_spec.specs.Replay.{Replay, World, Course, published, published_at, past_of, world}
-use Rattle.ledger_spec.specs.Views.{end_of, made_datum, thread_output_in, thread_output_at, thread_shown}
-use Rattle.ledger_spec.proofs.PublishingLaws.{published_two}
-use Rattle.ledger_spec.proofs.ReplayLaws.{replay_after}
+use Rattle.ledger_kept.specs.EutxoTypes.declared.output_ref.OutputRef.{OutputRef}
+use Rattle.ledger_kept.specs.Roles.declared.published.Published.{Published}
+use Rattle.ledger_kept.specs.Ledger.declared.ask.Ask.{Ask}
+use Rattle.ledger_kept.specs.Ledger.declared.call.Call.TheVariants as on
+use Rattle.ledger_kept.specs.Ledger.declared.call.Entry.{Entry}
+use Rattle.ledger_kept.specs.Ledger.declared.look.ThreadOutput.{ThreadOutput}
+use Rattle.ledger_kept.specs.LedgerLaws.Past.{Past, unspent_at}
+use Rattle.ledger_kept.specs.LedgerSpec.Legal.{with_entry, entry_of}
+use Rattle.ledger_kept.specs.LedgerSpec.Replay.{Replay, World, Course, published, published_at, past_of, world}
+use Rattle.ledger_kept.specs.LedgerSpec.Views.{end_of, made_datum, thread_output_in, thread_output_at, thread_shown}
+use Rattle.ledger_kept.proofs.FromLedgerSpec.PublishingLaws.{published_two}
+use Rattle.ledger_kept.proofs.FromLedgerSpec.ReplayLaws.{replay_after}
 use Rattle.chain_holdings.specs.After.{output_shown, shown_at}
 use Rattle.chain_holdings.specs.StillSupport.{IsStill}
 

@@ -2,11 +2,11 @@
 use Rattle.std.proofs.Common.{◌≡◌, ℕ, zero, suc, ℤ, ◌+◌, Option, Some, None, ◌<◌, ◌≤◌, List, [], ◌∷◌, ◌++◌, length, take, get_or, refl, sym, ◌∙◌, ap, subst, arith}
 use Rattle.std.proofs.lemmas.List.{take_more}
 use Rattle.std.specs.List.{slice_get}
-use Rattle.eutxo_types.specs.declared.tx.Tx.{Tx}
-use Rattle.ledger.specs.declared.call.Entry.{Entry}
-use Rattle.ledger_laws.proofs.PlainLaws.{take_some}
-use Rattle.ledger_spec.specs.Replay.{Course}
-use Rattle.ledger_spec.specs.Legal.{with_entry}
+use Rattle.ledger_kept.specs.EutxoTypes.declared.tx.Tx.{Tx}
+use Rattle.ledger_kept.specs.Ledger.declared.call.Entry.{Entry}
+use Rattle.ledger_kept.proofs.FromLedgerLaws.PlainLaws.{take_some}
+use Rattle.ledger_kept.specs.LedgerSpec.Replay.{Course}
+use Rattle.ledger_kept.specs.LedgerSpec.Legal.{with_entry}
 use Rattle.ledger_kept.specs.Kept.{Tally, IsTally, TalliesEntry}
 
 -- a tally of all histories that have this first tick and these entries

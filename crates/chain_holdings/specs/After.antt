@@ -1,15 +1,15 @@
 -- WHO HOLDS WHAT after a history: what stands unspent, summed by holder and token.
 use Rattle.std.specs.Prelude.{◌≡◌, ℤ, List, map, Option, Some, None}
 use Rattle.std.specs.List.{flat_map}
-use Rattle.names.specs.declared.token.Token.{Token}
-use Rattle.bundle.specs.Totals.{total_of}
-use Rattle.eutxo_types.specs.declared.output.Output.{Output}
-use Rattle.eutxo_types.specs.declared.output_ref.OutputRef.{OutputRef}
-use Rattle.ledger.specs.declared.call.Entry.{Entry}
-use Rattle.ledger.specs.declared.look.ThreadOutput.{ThreadOutput}
-use Rattle.ledger_laws.specs.Past.{unspent}
-use Rattle.ledger_spec.specs.Replay.{Course, World, world, past_of}
-use Rattle.ledger_spec.specs.Views.{thread_shown}
+use Rattle.contract.specs.Names.declared.token.Token.{Token}
+use Rattle.ledger_kept.specs.Bundle.Totals.{total_of}
+use Rattle.ledger_kept.specs.EutxoTypes.declared.output.Output.{Output}
+use Rattle.ledger_kept.specs.EutxoTypes.declared.output_ref.OutputRef.{OutputRef}
+use Rattle.ledger_kept.specs.Ledger.declared.call.Entry.{Entry}
+use Rattle.ledger_kept.specs.Ledger.declared.look.ThreadOutput.{ThreadOutput}
+use Rattle.ledger_kept.specs.LedgerLaws.Past.{unspent}
+use Rattle.ledger_kept.specs.LedgerSpec.Replay.{Course, World, world, past_of}
+use Rattle.ledger_kept.specs.LedgerSpec.Views.{thread_shown}
 use Rattle.play_holdings.specs.declared.holding.Holding.{Holding}
 use Rattle.play_holdings.specs.Holdings.{held_in, AreSums, come_to, of_token}
 

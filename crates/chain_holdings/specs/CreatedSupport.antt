@@ -1,10 +1,10 @@
 -- No reader needs this file: outputs as they were created, and those of them that are unspent.
 use Rattle.std.specs.Prelude.{ℕ, Bool, false, List, [], ◌∷◌, if◌then◌else◌, Option, is_some}
 use Rattle.std.specs.List.{flat_map}
-use Rattle.eutxo_types.specs.declared.output.Output.{Output}
-use Rattle.eutxo_types.specs.declared.output_ref.OutputRef.{OutputRef}
-use Rattle.eutxo_types.specs.declared.output_ref.OutputRef.TheVariants.{Genesis, Made}
-use Rattle.ledger_laws.specs.Past.{Past, unspent_at}
+use Rattle.ledger_kept.specs.EutxoTypes.declared.output.Output.{Output}
+use Rattle.ledger_kept.specs.EutxoTypes.declared.output_ref.OutputRef.{OutputRef}
+use Rattle.ledger_kept.specs.EutxoTypes.declared.output_ref.OutputRef.TheVariants.{Genesis, Made}
+use Rattle.ledger_kept.specs.LedgerLaws.Past.{Past, unspent_at}
 use Rattle.chain_holdings.specs.declared.unspent.Maker.{Maker}
 use Rattle.chain_holdings.specs.declared.unspent.Maker.TheVariants.{Beginning, Accepted}
 

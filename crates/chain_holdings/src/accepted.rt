@@ -1,12 +1,10 @@
 //! What was accepted.
 ghost use Rattle.std.specs.Prelude.{◌≡◌, IfOk};
-ghost use Rattle.ledger_spec.specs.Replay.{Course, world};
+ghost use Rattle.ledger_kept.specs.LedgerSpec.Replay.{Course, world};
 ghost use Rattle.ledger_kept.specs.Kept.{IsTally};
 
-use collections::Memory;
-use eutxo_types::Tx;
-use ledger::Entry;
-use ledger_kept::{Kept, Tally};
+use contract::Memory;
+use ledger_kept::{Entry, Kept, Tally, Tx};
 use std::alloc::Global;
 use std::marker::Model;
 
@@ -18,8 +16,8 @@ pub(crate) struct LentTx<'a> {
 
 impl<'a> Model for LentTx<'a> {
     ghost use Rattle.std.specs.Coded.{codes};
-    ghost use Rattle.eutxo_types.specs.contracts.tx.Tx as txs;
-    ghost use Rattle.eutxo_types.specs.declared.tx.Tx.{Tx};
+    ghost use Rattle.ledger_kept.specs.EutxoTypes.contracts.tx.Tx as txs;
+    ghost use Rattle.ledger_kept.specs.EutxoTypes.declared.tx.Tx.{Tx};
 
     ghost Value = { Tx };
 

@@ -1,15 +1,13 @@
 //! A second chain with the same history.
 ghost use Rattle.std.specs.Prelude.{◌≡◌, [], IfOk};
-ghost use Rattle.ledger_laws.specs.Sound.{AreKeys};
-ghost use Rattle.ledger_spec.specs.Genesis.{SumsFit};
-ghost use Rattle.ledger_spec.specs.Legal.{IsLegal};
+ghost use Rattle.ledger_kept.specs.LedgerLaws.Sound.{AreKeys};
+ghost use Rattle.ledger_kept.specs.LedgerSpec.Genesis.{SumsFit};
+ghost use Rattle.ledger_kept.specs.LedgerSpec.Legal.{IsLegal};
 ghost use Rattle.chain_holdings.specs.After.{course};
 
 use chain::Chain;
-use collections::{Items, Memory, TryClone};
-use eutxo_types::Output;
-use ledger::Entry;
-use ledger_spec::GenesisFault;
+use contract::{Items, Memory, TryClone};
+use ledger_kept::{Entry, GenesisFault, Output};
 use std::alloc::{AllocError, Global};
 
 // A chain without entries.

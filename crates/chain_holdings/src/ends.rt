@@ -1,14 +1,13 @@
 //! Where threads stand.
 ghost use Rattle.std.specs.Prelude.{◌≡◌, map, IfOk, OnOk};
-ghost use Rattle.ledger_spec.specs.Replay.{world};
+ghost use Rattle.ledger_kept.specs.LedgerSpec.Replay.{world};
 ghost use Rattle.chain_holdings.specs.After as after;
 ghost use Rattle.chain_holdings.specs.After.{shown_at};
 ghost use Rattle.chain_holdings.specs.StillSupport.{IsStill};
 
 use chain::Chain;
-use collections::{Items, Memory};
-use eutxo_types::OutputRef;
-use ledger::{Ask, Call, Look, Reply};
+use contract::{Items, Memory};
+use ledger_kept::{Ask, Call, Look, OutputRef, Reply};
 use std::alloc::Global;
 
 // The output of the thread that a look shows.

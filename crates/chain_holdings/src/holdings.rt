@@ -7,9 +7,8 @@ use crate::again::made_again;
 use crate::ends::ends_after;
 use crate::unspent::unspent;
 use chain::Chain;
-use collections::{Items, Memory, TryClone};
-use eutxo_types::{Output, OutputRef};
-use ledger_kept::Kept;
+use contract::{Items, Memory, TryClone};
+use ledger_kept::{Kept, Output, OutputRef};
 use play_holdings::{Holding, holdings_of};
 use std::alloc::Global;
 

@@ -1,15 +1,14 @@
 //! All that is unspent.
 ghost use Rattle.std.specs.Prelude.{◌≡◌, ◌++◌, ◌∷◌, [], map, is_some, IfOk, OnOk};
-ghost use Rattle.ledger_laws.specs.Past.{unspent, unspent_at, with_references};
-ghost use Rattle.ledger_spec.specs.Replay.{past_of, world};
+ghost use Rattle.ledger_kept.specs.LedgerLaws.Past.{unspent, unspent_at, with_references};
+ghost use Rattle.ledger_kept.specs.LedgerSpec.Replay.{past_of, world};
 ghost use Rattle.chain_holdings.specs.CreatedSupport as created;
 ghost use Rattle.chain_holdings.specs.CreatedSupport.{first_there, unspent_among};
 
 use crate::accepted::LentTx;
 use chain::Chain;
-use collections::{Items, Memory};
-use contract::Interval;
-use eutxo_types::{Output, OutputRef, Redeemer, Spend, Tx, tx_id};
+use contract::{Interval, Items, Memory};
+use ledger_kept::{Output, OutputRef, Redeemer, Spend, Tx, tx_id};
 use play_holdings::LentOutput;
 use std::alloc::Global;
 

@@ -7,18 +7,18 @@ use Rattle.std.proofs.lemmas.Bool.{eq-eqb}
 use Rattle.std.proofs.lemmas.List.{map-append}
 use Rattle.std.proofs.lemmas.Map.Entries.{lookup-filter-keys}
 use Rattle.std.proofs.lemmas.Map.Made.{is_some-lookup}
-use Rattle.machine.specs.declared.datum.Datum.{Datum}
-use Rattle.eutxo_types.specs.declared.output.Output.{Output}
-use Rattle.eutxo_types.specs.declared.output_ref.OutputRef.{OutputRef}
-use Rattle.eutxo_types.specs.declared.output_ref.OutputRef.TheVariants.{Genesis, Made}
-use Rattle.eutxo_types.specs.declared.tx.Tx.{Tx}
-use Rattle.eutxo_types.specs.Ids.{id_of}
-use Rattle.eutxo_types.specs.Parts.{Instance, same_bytes, same_ref, contract_at}
-use Rattle.eutxo.specs.Faults.{first_of}
-use Rattle.ledger_laws.specs.Past.{with_references, created_by, is_spent, has_id}
-use Rattle.ledger_laws.proofs.PlainLaws.{and_true, both, both_false, no_more, not_both}
-use Rattle.ledger_laws.proofs.PartLaws.{under_so}
-use Rattle.ledger_laws.proofs.ReferenceLaws.{same_ref_so, lookup_front, lookup_back, unspent_so, at_place, itself}
+use Rattle.ledger_spec.specs.Machine.declared.datum.Datum.{Datum}
+use Rattle.ledger_spec.specs.EutxoTypes.declared.output.Output.{Output}
+use Rattle.ledger_spec.specs.EutxoTypes.declared.output_ref.OutputRef.{OutputRef}
+use Rattle.ledger_spec.specs.EutxoTypes.declared.output_ref.OutputRef.TheVariants.{Genesis, Made}
+use Rattle.ledger_spec.specs.EutxoTypes.declared.tx.Tx.{Tx}
+use Rattle.ledger_spec.specs.EutxoTypes.Ids.{id_of}
+use Rattle.ledger_spec.specs.EutxoTypes.Parts.{Instance, same_bytes, same_ref, contract_at}
+use Rattle.ledger_spec.specs.Eutxo.Faults.{first_of}
+use Rattle.ledger_spec.specs.LedgerLaws.Past.{with_references, created_by, is_spent, has_id}
+use Rattle.ledger_spec.proofs.FromLedgerLaws.PlainLaws.{and_true, both, both_false, no_more, not_both}
+use Rattle.ledger_spec.proofs.FromLedgerLaws.PartLaws.{under_so}
+use Rattle.ledger_spec.proofs.FromLedgerLaws.ReferenceLaws.{same_ref_so, lookup_front, lookup_back, unspent_so, at_place, itself}
 use Rattle.ledger_spec.specs.Views.{instance_in}
 use Rattle.chain_index.specs.declared.naming.Naming.TheVariants as whose
 use Rattle.chain_index.specs.Contents.{is_among}

@@ -3,8 +3,8 @@ use Rattle.std.proofs.Common.{◌≡◌, ℕ, ◌≤◌, arith, List, [], ◌∷
 use Rattle.std.specs.Prelude.{if◌then◌else◌}
 use Rattle.std.proofs.Math.Seq.{take-append_seam}
 use Rattle.std.proofs.lemmas.List.{take-append-le, length-append}
-use Rattle.eutxo_types.specs.declared.output_ref.OutputRef.{OutputRef}
-use Rattle.ledger_laws.proofs.PlainLaws.{no_more}
+use Rattle.ledger_spec.specs.EutxoTypes.declared.output_ref.OutputRef.{OutputRef}
+use Rattle.ledger_spec.proofs.FromLedgerLaws.PlainLaws.{no_more}
 use Rattle.chain_index.specs.Contents.{is_among}
 use Rattle.chain_index.specs.HolesSupport.{with_key}
 use Rattle.chain_index.specs.PartsSupport.{IsFront}

@@ -13,3 +13,6 @@ pub mod ShownLemmas
 pub mod PartsLemmas
 pub mod PastLemmas
 pub mod ThreadLemmas
+pub mod FromBundle
+pub mod FromLedgerLaws
+pub mod FromLedgerSpec

@@ -4,13 +4,13 @@ use Rattle.std.specs.Prelude.{is_some}
 use Rattle.std.specs.List.{IsDistinct, AllByRecursion}
 use Rattle.std.specs.Map.{lookup, keys_of, set_value}
 use Rattle.std.proofs.lemmas.Map.Entries.{lookup-filter-keys}
-use Rattle.eutxo_types.specs.declared.output_ref.OutputRef.{OutputRef}
-use Rattle.eutxo_types.specs.Parts.{same_ref}
-use Rattle.ledger_laws.proofs.ReferenceLaws.{same_ref_so}
+use Rattle.ledger_spec.specs.EutxoTypes.declared.output_ref.OutputRef.{OutputRef}
+use Rattle.ledger_spec.specs.EutxoTypes.Parts.{same_ref}
+use Rattle.ledger_spec.proofs.FromLedgerLaws.ReferenceLaws.{same_ref_so}
 use Rattle.chain_index.specs.Contents.{is_among}
 use Rattle.chain_index.specs.HolesSupport.{with_live, live, staying, known}
 use Rattle.chain_index.specs.NamingSupport.{slots}
-use Rattle.eutxo_types.specs.contracts.output_ref.OutputRefPartialEq.TheImpl.{ghosts}
+use Rattle.ledger_spec.specs.EutxoTypes.contracts.output_ref.OutputRefPartialEq.TheImpl.{ghosts}
 use Rattle.chain_index.proofs.RefLemmas.{eq_same, among_more}
 
 abbrev Slots : Type 0 → Type 0

@@ -6,13 +6,13 @@ use Rattle.std.specs.Map.{lookup}
 use Rattle.std.specs.Cmp.Lexicographic.{bytes_decides}
 use Rattle.std.proofs.lemmas.List.Elements.{filter-append}
 use Rattle.std.proofs.lemmas.Map.Entries.{lookup-filter-keys}
-use Rattle.eutxo_types.specs.declared.output.Output.{Output}
-use Rattle.eutxo_types.specs.declared.output_ref.OutputRef.{OutputRef}
-use Rattle.eutxo_types.specs.Parts.{same_bytes, same_ref}
+use Rattle.ledger_spec.specs.EutxoTypes.declared.output.Output.{Output}
+use Rattle.ledger_spec.specs.EutxoTypes.declared.output_ref.OutputRef.{OutputRef}
+use Rattle.ledger_spec.specs.EutxoTypes.Parts.{same_bytes, same_ref}
 use Rattle.indexmap.specs.IndexSet.{IndexSet}
-use Rattle.eutxo_types.specs.contracts.output_ref.OutputRefPartialEq.TheImpl.{ghosts as of_refs}
-use Rattle.ledger_laws.proofs.PlainLaws.{and_true, both, no_more}
-use Rattle.ledger_laws.proofs.ReferenceLaws.{itself, same_ref-refl, same_ref_so, lookup_front, lookup_back}
+use Rattle.ledger_spec.specs.EutxoTypes.contracts.output_ref.OutputRefPartialEq.TheImpl.{ghosts as of_refs}
+use Rattle.ledger_spec.proofs.FromLedgerLaws.PlainLaws.{and_true, both, no_more}
+use Rattle.ledger_spec.proofs.FromLedgerLaws.ReferenceLaws.{itself, same_ref-refl, same_ref_so, lookup_front, lookup_back}
 use Rattle.chain_index.specs.contracts.lock_name.LockNamePartialEq.TheImpl.{ghosts}
 use Rattle.chain_index.specs.declared.lock_name.LockName.{LockName}
 use Rattle.chain_index.specs.declared.lock_name.LockName.TheVariants.{Address, Role}

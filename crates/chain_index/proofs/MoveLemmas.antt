@@ -4,14 +4,14 @@ use Rattle.std.specs.List.{list_any, IsDistinct, AllByRecursion}
 use Rattle.std.specs.Map.{lookup, keys_of}
 use Rattle.std.proofs.lemmas.List.{drop_more, drop_all, map-append}
 use Rattle.std.proofs.lemmas.Map.Keys.{IsDistinct-head, IsDistinct-tail}
-use Rattle.eutxo_types.specs.contracts.output_ref.OutputRefPartialEq.TheImpl.{ghosts}
-use Rattle.eutxo_types.specs.declared.output_ref.OutputRef.{OutputRef}
-use Rattle.eutxo_types.specs.declared.spend.Spend.{Spend}
-use Rattle.eutxo_types.specs.declared.tx.Tx.{Tx}
-use Rattle.eutxo_types.specs.Parts.{same_ref, is_step}
-use Rattle.ledger_laws.specs.Threads.{next_in}
-use Rattle.ledger_laws.proofs.PlainLaws.{both_false, no_more, or_true}
-use Rattle.ledger_laws.proofs.ReferenceLaws.{same_ref_so, same_ref-refl}
+use Rattle.ledger_spec.specs.EutxoTypes.contracts.output_ref.OutputRefPartialEq.TheImpl.{ghosts}
+use Rattle.ledger_spec.specs.EutxoTypes.declared.output_ref.OutputRef.{OutputRef}
+use Rattle.ledger_spec.specs.EutxoTypes.declared.spend.Spend.{Spend}
+use Rattle.ledger_spec.specs.EutxoTypes.declared.tx.Tx.{Tx}
+use Rattle.ledger_spec.specs.EutxoTypes.Parts.{same_ref, is_step}
+use Rattle.ledger_spec.specs.LedgerLaws.Threads.{next_in}
+use Rattle.ledger_spec.proofs.FromLedgerLaws.PlainLaws.{both_false, no_more, or_true}
+use Rattle.ledger_spec.proofs.FromLedgerLaws.ReferenceLaws.{same_ref_so, same_ref-refl}
 use Rattle.chain_index.specs.declared.moves.Move.{Move}
 use Rattle.chain_index.specs.declared.moves.StepPlace.{StepPlace}
 use Rattle.chain_index.specs.Contents.{is_among}

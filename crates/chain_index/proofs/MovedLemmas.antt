@@ -2,25 +2,25 @@
 use Rattle.std.proofs.Common.{◌≡◌, ℕ, zero, suc, ◌+◌, Bool, true, false, List, [], ◌∷◌, ◌++◌, map, refl, sym, ◌∙◌, ap, subst, Option, Some, None}
 use Rattle.std.specs.Prelude.{if◌then◌else◌}
 use Rattle.std.specs.List.{slice_get}
-use Rattle.machine.specs.declared.datum.Datum.{Datum}
-use Rattle.eutxo_types.specs.declared.lock.Lock.{Lock}
-use Rattle.eutxo_types.specs.declared.lock.Lock.TheVariants.{Key, Payout, Contract}
-use Rattle.eutxo_types.specs.declared.output.Output.{Output}
-use Rattle.eutxo_types.specs.declared.output_ref.OutputRef.{OutputRef}
-use Rattle.eutxo_types.specs.declared.spend.Spend.{Spend}
-use Rattle.eutxo_types.specs.declared.tx.Tx.{Tx}
-use Rattle.eutxo_types.specs.Digests.{datum_hash}
-use Rattle.eutxo_types.specs.Parts.{same_ref, is_step, inputs_of, is_contract, ContractLock, contract_in}
-use Rattle.eutxo.specs.declared.validator.StepAnswer.{StepAnswer}
-use Rattle.eutxo.specs.Asked.{Judges}
-use Rattle.eutxo.specs.Blocks.{Block, size, answer_by, step_asked, blocks, continues, places_in, goes_on_at}
-use Rattle.eutxo.specs.BlockLaws.{AllDiffer, AreFresh}
-use Rattle.eutxo.specs.Rules.{opens, digest_in, digests_in, Step, or_step, steps_of}
-use Rattle.ledger_laws.specs.Threads.{next_in}
-use Rattle.ledger_laws.proofs.PlainLaws.{EachFalse, not_false, not_both, same_some}
-use Rattle.ledger_laws.proofs.PartLaws.{is_contract_so}
-use Rattle.ledger_laws.proofs.PairedLemmas.{Paired, misfits, step_opens, contract_steps}
-use Rattle.ledger_laws.proofs.ReferenceLaws.{same_ref-refl}
+use Rattle.ledger_spec.specs.Machine.declared.datum.Datum.{Datum}
+use Rattle.ledger_spec.specs.EutxoTypes.declared.lock.Lock.{Lock}
+use Rattle.ledger_spec.specs.EutxoTypes.declared.lock.Lock.TheVariants.{Key, Payout, Contract}
+use Rattle.ledger_spec.specs.EutxoTypes.declared.output.Output.{Output}
+use Rattle.ledger_spec.specs.EutxoTypes.declared.output_ref.OutputRef.{OutputRef}
+use Rattle.ledger_spec.specs.EutxoTypes.declared.spend.Spend.{Spend}
+use Rattle.ledger_spec.specs.EutxoTypes.declared.tx.Tx.{Tx}
+use Rattle.ledger_spec.specs.EutxoTypes.Digests.{datum_hash}
+use Rattle.ledger_spec.specs.EutxoTypes.Parts.{same_ref, is_step, inputs_of, is_contract, ContractLock, contract_in}
+use Rattle.ledger_spec.specs.Eutxo.declared.validator.StepAnswer.{StepAnswer}
+use Rattle.ledger_spec.specs.Eutxo.Asked.{Judges}
+use Rattle.ledger_spec.specs.Eutxo.Blocks.{Block, size, answer_by, step_asked, blocks, continues, places_in, goes_on_at}
+use Rattle.ledger_spec.specs.Eutxo.BlockLaws.{AllDiffer, AreFresh}
+use Rattle.ledger_spec.specs.Eutxo.Rules.{opens, digest_in, digests_in, Step, or_step, steps_of}
+use Rattle.ledger_spec.specs.LedgerLaws.Threads.{next_in}
+use Rattle.ledger_spec.proofs.FromLedgerLaws.PlainLaws.{EachFalse, not_false, not_both, same_some}
+use Rattle.ledger_spec.proofs.FromLedgerLaws.PartLaws.{is_contract_so}
+use Rattle.ledger_spec.proofs.FromLedgerLaws.PairedLemmas.{Paired, misfits, step_opens, contract_steps}
+use Rattle.ledger_spec.proofs.FromLedgerLaws.ReferenceLaws.{same_ref-refl}
 use Rattle.chain_index.specs.declared.moves.Move.{Move}
 use Rattle.chain_index.specs.Moves.{Next, move_to, moves_by, and_move, moves_to}
 

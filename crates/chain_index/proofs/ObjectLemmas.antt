@@ -3,8 +3,8 @@ use Rattle.std.proofs.Common.{◌≡◌, ℕ, zero, suc, Bool, true, false, cond
 use Rattle.std.specs.Map.{lookup, keys_of, values_of}
 use Rattle.std.specs.Cmp.Lexicographic.{bytes_decides}
 use Rattle.std.proofs.lemmas.List.{map-append}
-use Rattle.eutxo_types.specs.Parts.{same_bytes}
-use Rattle.roles.specs.declared.published.Published.{Published}
+use Rattle.ledger_spec.specs.EutxoTypes.Parts.{same_bytes}
+use Rattle.ledger_spec.specs.Roles.declared.published.Published.{Published}
 use Rattle.ledger_spec.specs.Replay.{published_at}
 use Rattle.chain_index.specs.PartsSupport.{AreNamed}
 

@@ -4,13 +4,13 @@ use Rattle.std.specs.Prelude.{◌==◌, ◌&&◌}
 use Rattle.std.specs.List.{list_any}
 use Rattle.std.proofs.lemmas.Bool.{ne_eqb}
 use Rattle.std.proofs.lemmas.List.{at_drop_more, map-append}
-use Rattle.eutxo_types.specs.declared.output.Output.{Output}
-use Rattle.eutxo_types.specs.declared.output_ref.OutputRef.{OutputRef}
-use Rattle.eutxo_types.specs.declared.output_ref.OutputRef.TheVariants as ref
-use Rattle.eutxo_types.specs.declared.spend.Spend.{Spend}
-use Rattle.eutxo_types.specs.Parts.{same_bytes, same_ref}
-use Rattle.ledger_laws.specs.Past.{with_references}
-use Rattle.ledger_laws.proofs.PlainLaws.{both_false}
+use Rattle.ledger_spec.specs.EutxoTypes.declared.output.Output.{Output}
+use Rattle.ledger_spec.specs.EutxoTypes.declared.output_ref.OutputRef.{OutputRef}
+use Rattle.ledger_spec.specs.EutxoTypes.declared.output_ref.OutputRef.TheVariants as ref
+use Rattle.ledger_spec.specs.EutxoTypes.declared.spend.Spend.{Spend}
+use Rattle.ledger_spec.specs.EutxoTypes.Parts.{same_bytes, same_ref}
+use Rattle.ledger_spec.specs.LedgerLaws.Past.{with_references}
+use Rattle.ledger_spec.proofs.FromLedgerLaws.PlainLaws.{both_false}
 use Rattle.chain_index.specs.declared.naming.Naming.{Naming}
 use Rattle.chain_index.specs.declared.naming.Naming.TheVariants.{Genesis, Made}
 use Rattle.chain_index.specs.Contents.{is_among}

@@ -5,15 +5,15 @@ use Rattle.std.proofs.Math.Seq.{take-length}
 use Rattle.std.proofs.lemmas.List.{length-take-le, map-append}
 use Rattle.std.proofs.lemmas.List.Elements.{filter-append}
 use Rattle.std.proofs.lemmas.List.Folds.{list_any-append}
-use Rattle.machine.specs.declared.datum.Datum.{Datum}
-use Rattle.eutxo_types.specs.declared.output.Output.{Output}
-use Rattle.eutxo_types.specs.declared.output_ref.OutputRef.{OutputRef}
-use Rattle.eutxo_types.specs.declared.output_ref.OutputRef.TheVariants.{Genesis, Made}
-use Rattle.eutxo_types.specs.declared.tx.Tx.{Tx}
-use Rattle.eutxo_types.specs.Ids.{id_of}
-use Rattle.eutxo_types.specs.Parts.{same_bytes, same_ref}
-use Rattle.ledger_laws.specs.Past.{with_references, created_by, is_input_of}
-use Rattle.ledger_laws.proofs.PlainLaws.{and_true, no_more, or_true, take_twice}
+use Rattle.ledger_spec.specs.Machine.declared.datum.Datum.{Datum}
+use Rattle.ledger_spec.specs.EutxoTypes.declared.output.Output.{Output}
+use Rattle.ledger_spec.specs.EutxoTypes.declared.output_ref.OutputRef.{OutputRef}
+use Rattle.ledger_spec.specs.EutxoTypes.declared.output_ref.OutputRef.TheVariants.{Genesis, Made}
+use Rattle.ledger_spec.specs.EutxoTypes.declared.tx.Tx.{Tx}
+use Rattle.ledger_spec.specs.EutxoTypes.Ids.{id_of}
+use Rattle.ledger_spec.specs.EutxoTypes.Parts.{same_bytes, same_ref}
+use Rattle.ledger_spec.specs.LedgerLaws.Past.{with_references, created_by, is_input_of}
+use Rattle.ledger_spec.proofs.FromLedgerLaws.PlainLaws.{and_true, no_more, or_true, take_twice}
 use Rattle.chain_index.specs.declared.parts.Sizes.{Sizes}
 use Rattle.chain_index.specs.Contents.{Contents, Indexed, first_contents, without, accepting, is_used, is_among, CanBeAdded}
 use Rattle.chain_index.specs.Data.{data_by}

@@ -10,34 +10,34 @@ use Rattle.std.specs.Option.{option_or}
 use Rattle.std.proofs.lemmas.List.Folds.{list_any-append, find-append}
 use Rattle.std.proofs.lemmas.Map.Keys.{IsDistinct-cons}
 use Rattle.std.proofs.lemmas.Map.Views.{any-filter_same}
-use Rattle.machine.specs.declared.datum.Datum.{Datum}
-use Rattle.eutxo_types.specs.declared.output.Output.{Output}
-use Rattle.eutxo_types.specs.declared.output_ref.OutputRef.{OutputRef}
-use Rattle.eutxo_types.specs.declared.output_ref.OutputRef.TheVariants.{Genesis, Made}
-use Rattle.eutxo_types.specs.declared.spend.Spend.{Spend}
-use Rattle.eutxo_types.specs.declared.tx.Tx.{Tx}
-use Rattle.eutxo_types.specs.Ids.{id_of}
-use Rattle.eutxo_types.specs.Parts.{same_bytes, same_ref, is_step, steps, contract_at}
-use Rattle.eutxo.specs.Asked.{Judges}
-use Rattle.eutxo.specs.Blocks.{Block, blocks, blocks_on, places_in, goes_on_at}
-use Rattle.eutxo.specs.Found.{with_outputs, if_known}
-use Rattle.eutxo.specs.Judgement.{found, judge}
-use Rattle.eutxo.specs.Laws.{FoundIsEnough, FoundTellsPlaces}
-use Rattle.eutxo.specs.Local.{places_of}
-use Rattle.eutxo.specs.Rules.{digests_in, steps_of}
-use Rattle.roles.specs.declared.published.Published.{Published}
-use Rattle.roles.specs.Steps.{marlowe}
-use Rattle.ledger_laws.specs.Laws.{AfterIsSound, ThreadsStay}
-use Rattle.ledger_laws.specs.Sound.{moment, IsSound, IsMore}
-use Rattle.ledger_laws.specs.Past.{Past, before, after, is_input_of, is_spent, created, created_by, unspent, unspent_at, has_id}
-use Rattle.ledger_laws.specs.Past as past_words
-use Rattle.ledger_laws.specs.Threads.{next_in}
-use Rattle.ledger_laws.proofs.PlainLaws.{EachFalse, and_true, or_false, both_false, not_both, is_there, any_there, each_at, no_more}
-use Rattle.ledger_laws.proofs.ReferenceLaws.{same_ref_so, created_grown, spent_more, unspent_so, and_never}
-use Rattle.ledger_laws.proofs.DatumLaws.{told}
-use Rattle.ledger_laws.proofs.AcceptedLaws.{Spent, spent_at, fresh_at_steps, blocks_so, still_there}
-use Rattle.ledger_laws.proofs.FreshLemmas.{Fresh, fresh}
-use Rattle.ledger_laws.proofs.JudgedLemmas.{Passes, passes}
+use Rattle.ledger_spec.specs.Machine.declared.datum.Datum.{Datum}
+use Rattle.ledger_spec.specs.EutxoTypes.declared.output.Output.{Output}
+use Rattle.ledger_spec.specs.EutxoTypes.declared.output_ref.OutputRef.{OutputRef}
+use Rattle.ledger_spec.specs.EutxoTypes.declared.output_ref.OutputRef.TheVariants.{Genesis, Made}
+use Rattle.ledger_spec.specs.EutxoTypes.declared.spend.Spend.{Spend}
+use Rattle.ledger_spec.specs.EutxoTypes.declared.tx.Tx.{Tx}
+use Rattle.ledger_spec.specs.EutxoTypes.Ids.{id_of}
+use Rattle.ledger_spec.specs.EutxoTypes.Parts.{same_bytes, same_ref, is_step, steps, contract_at}
+use Rattle.ledger_spec.specs.Eutxo.Asked.{Judges}
+use Rattle.ledger_spec.specs.Eutxo.Blocks.{Block, blocks, blocks_on, places_in, goes_on_at}
+use Rattle.ledger_spec.specs.Eutxo.Found.{with_outputs, if_known}
+use Rattle.ledger_spec.specs.Eutxo.Judgement.{found, judge}
+use Rattle.ledger_spec.specs.Eutxo.Laws.{FoundIsEnough, FoundTellsPlaces}
+use Rattle.ledger_spec.specs.Eutxo.Local.{places_of}
+use Rattle.ledger_spec.specs.Eutxo.Rules.{digests_in, steps_of}
+use Rattle.ledger_spec.specs.Roles.declared.published.Published.{Published}
+use Rattle.ledger_spec.specs.Roles.Steps.{marlowe}
+use Rattle.ledger_spec.specs.LedgerLaws.Laws.{AfterIsSound, ThreadsStay}
+use Rattle.ledger_spec.specs.LedgerLaws.Sound.{moment, IsSound, IsMore}
+use Rattle.ledger_spec.specs.LedgerLaws.Past.{Past, before, after, is_input_of, is_spent, created, created_by, unspent, unspent_at, has_id}
+use Rattle.ledger_spec.specs.LedgerLaws.Past as past_words
+use Rattle.ledger_spec.specs.LedgerLaws.Threads.{next_in}
+use Rattle.ledger_spec.proofs.FromLedgerLaws.PlainLaws.{EachFalse, and_true, or_false, both_false, not_both, is_there, any_there, each_at, no_more}
+use Rattle.ledger_spec.proofs.FromLedgerLaws.ReferenceLaws.{same_ref_so, created_grown, spent_more, unspent_so, and_never}
+use Rattle.ledger_spec.proofs.FromLedgerLaws.DatumLaws.{told}
+use Rattle.ledger_spec.proofs.FromLedgerLaws.AcceptedLaws.{Spent, spent_at, fresh_at_steps, blocks_so, still_there}
+use Rattle.ledger_spec.proofs.FromLedgerLaws.FreshLemmas.{Fresh, fresh}
+use Rattle.ledger_spec.proofs.FromLedgerLaws.JudgedLemmas.{Passes, passes}
 use Rattle.ledger_spec.specs.Replay.{published_at}
 use Rattle.ledger_spec.specs.Views.{starts_in}
 use Rattle.chain_index.specs.declared.moves.Move.{Move}

@@ -8,16 +8,16 @@ use Rattle.std.proofs.lemmas.Bool.Decides.{nat_tests}
 use Rattle.std.proofs.lemmas.List.{drop_more}
 use Rattle.std.proofs.lemmas.Map.Keys.{IsDistinct-head, IsDistinct-tail}
 use Rattle.std.proofs.lemmas.Map.Made.{lookup_key_passes}
-use Rattle.eutxo_types.specs.declared.lock.Lock.{Lock}
-use Rattle.eutxo_types.specs.declared.lock.Lock.TheVariants.{Key, Payout, Contract}
-use Rattle.eutxo_types.specs.declared.output.Output.{Output}
-use Rattle.eutxo_types.specs.declared.output_ref.OutputRef.{OutputRef}
-use Rattle.eutxo_types.specs.Parts.{same_ref}
-use Rattle.eutxo_types.specs.contracts.output_ref.OutputRefPartialEq.TheImpl.{ghosts}
+use Rattle.ledger_spec.specs.EutxoTypes.declared.lock.Lock.{Lock}
+use Rattle.ledger_spec.specs.EutxoTypes.declared.lock.Lock.TheVariants.{Key, Payout, Contract}
+use Rattle.ledger_spec.specs.EutxoTypes.declared.output.Output.{Output}
+use Rattle.ledger_spec.specs.EutxoTypes.declared.output_ref.OutputRef.{OutputRef}
+use Rattle.ledger_spec.specs.EutxoTypes.Parts.{same_ref}
+use Rattle.ledger_spec.specs.EutxoTypes.contracts.output_ref.OutputRefPartialEq.TheImpl.{ghosts}
 use Rattle.indexmap.specs.IndexSet.{IndexSet}
-use Rattle.ledger.specs.declared.ask.PayoutLock.{PayoutLock}
-use Rattle.ledger_laws.proofs.PlainLaws.{same_some, not_both}
-use Rattle.ledger_laws.proofs.ReferenceLaws.{same_ref_so, same_ref-refl}
+use Rattle.ledger_spec.specs.Ledger.declared.ask.PayoutLock.{PayoutLock}
+use Rattle.ledger_spec.proofs.FromLedgerLaws.PlainLaws.{same_some, not_both}
+use Rattle.ledger_spec.proofs.FromLedgerLaws.ReferenceLaws.{same_ref_so, same_ref-refl}
 use Rattle.ledger_spec.specs.Views.{is_key_of, is_payout_of}
 use Rattle.chain_index.specs.declared.lock_name.LockName.{LockName}
 use Rattle.chain_index.specs.declared.lock_name.LockName.TheVariants.{Address, Role}

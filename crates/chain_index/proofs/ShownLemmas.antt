@@ -8,12 +8,12 @@ use Rattle.std.specs.BTreeMap.{is_at}
 use Rattle.std.proofs.lemmas.Bool.Decides.{nat_tests}
 use Rattle.std.proofs.lemmas.List.{map-append}
 use Rattle.std.proofs.lemmas.List.Elements.{filter-append}
-use Rattle.eutxo_types.specs.declared.lock.Lock.{Lock}
-use Rattle.eutxo_types.specs.declared.output.Output.{Output}
-use Rattle.eutxo_types.specs.declared.output_ref.OutputRef.{OutputRef}
-use Rattle.ledger.specs.declared.look.Unspent.{Unspent}
+use Rattle.ledger_spec.specs.EutxoTypes.declared.lock.Lock.{Lock}
+use Rattle.ledger_spec.specs.EutxoTypes.declared.output.Output.{Output}
+use Rattle.ledger_spec.specs.EutxoTypes.declared.output_ref.OutputRef.{OutputRef}
+use Rattle.ledger_spec.specs.Ledger.declared.look.Unspent.{Unspent}
 use Rattle.ledger_spec.specs.Views.{unspent_of}
-use Rattle.ledger_laws.proofs.PlainLaws.{not_both, or_false}
+use Rattle.ledger_spec.proofs.FromLedgerLaws.PlainLaws.{not_both, or_false}
 use Rattle.chain_index.specs.Contents.{is_among}
 use Rattle.chain_index.specs.HolesSupport.{live, staying}
 use Rattle.chain_index.specs.UnderLocksSupport.{under, is_shown, passes, passes_at, has_place, row_with, row, rows_at}

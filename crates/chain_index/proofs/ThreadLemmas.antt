@@ -5,24 +5,24 @@ use Rattle.std.specs.Option.{option_map}
 use Rattle.std.specs.List.{slice_get, list_any}
 use Rattle.std.specs.Map.{lookup, keys_of}
 use Rattle.std.proofs.lemmas.List.{length-append, take-append-drop}
-use Rattle.eutxo_types.specs.declared.output.Output.{Output}
-use Rattle.eutxo_types.specs.declared.output_ref.OutputRef.{OutputRef}
-use Rattle.eutxo_types.specs.declared.spend.Spend.{Spend}
-use Rattle.eutxo_types.specs.declared.tx.Tx.{Tx}
-use Rattle.eutxo_types.specs.Parts.{same_ref, is_step, is_contract, Instance, lock_of}
-use Rattle.eutxo.specs.Blocks.{goes_on_at}
-use Rattle.eutxo.specs.Laws.{FoundIsEnough}
-use Rattle.roles.specs.declared.published.Published.{Published}
-use Rattle.roles.specs.Steps.{marlowe}
-use Rattle.ledger_laws.specs.Past.{Past, created, is_input_of, is_spent}
-use Rattle.ledger_laws.specs.Sound.{IsSound}
-use Rattle.ledger_laws.specs.Threads.{blocks_of, Link, next_of, spine_by, thread_end, IsMade}
-use Rattle.ledger_laws.proofs.PlainLaws.{or_false, both_false, not_both, same_some, head_at, take_some, no_more}
-use Rattle.ledger_laws.proofs.PartLaws.{under_so, is_contract_so}
-use Rattle.ledger_laws.proofs.ReferenceLaws.{same_ref_so, same_ref-refl, lookup_front, lookup_back, spent_more}
-use Rattle.ledger_laws.proofs.AcceptedLaws.{named_input, steps_contract, made_there, still_there}
-use Rattle.ledger_laws.proofs.MadeLaws.{made_output}
-use Rattle.ledger_laws.proofs.SpineLaws.{reached, ends_reached, next_so}
+use Rattle.ledger_spec.specs.EutxoTypes.declared.output.Output.{Output}
+use Rattle.ledger_spec.specs.EutxoTypes.declared.output_ref.OutputRef.{OutputRef}
+use Rattle.ledger_spec.specs.EutxoTypes.declared.spend.Spend.{Spend}
+use Rattle.ledger_spec.specs.EutxoTypes.declared.tx.Tx.{Tx}
+use Rattle.ledger_spec.specs.EutxoTypes.Parts.{same_ref, is_step, is_contract, Instance, lock_of}
+use Rattle.ledger_spec.specs.Eutxo.Blocks.{goes_on_at}
+use Rattle.ledger_spec.specs.Eutxo.Laws.{FoundIsEnough}
+use Rattle.ledger_spec.specs.Roles.declared.published.Published.{Published}
+use Rattle.ledger_spec.specs.Roles.Steps.{marlowe}
+use Rattle.ledger_spec.specs.LedgerLaws.Past.{Past, created, is_input_of, is_spent}
+use Rattle.ledger_spec.specs.LedgerLaws.Sound.{IsSound}
+use Rattle.ledger_spec.specs.LedgerLaws.Threads.{blocks_of, Link, next_of, spine_by, thread_end, IsMade}
+use Rattle.ledger_spec.proofs.FromLedgerLaws.PlainLaws.{or_false, both_false, not_both, same_some, head_at, take_some, no_more}
+use Rattle.ledger_spec.proofs.FromLedgerLaws.PartLaws.{under_so, is_contract_so}
+use Rattle.ledger_spec.proofs.FromLedgerLaws.ReferenceLaws.{same_ref_so, same_ref-refl, lookup_front, lookup_back, spent_more}
+use Rattle.ledger_spec.proofs.FromLedgerLaws.AcceptedLaws.{named_input, steps_contract, made_there, still_there}
+use Rattle.ledger_spec.proofs.FromLedgerLaws.MadeLaws.{made_output}
+use Rattle.ledger_spec.proofs.FromLedgerLaws.SpineLaws.{reached, ends_reached, next_so}
 use Rattle.ledger_spec.specs.Replay.{published_at}
 use Rattle.ledger_spec.specs.Views.{starts_in}
 use Rattle.ledger_spec.proofs.StartsLaws.{start_told}

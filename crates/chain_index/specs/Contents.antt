@@ -2,22 +2,22 @@
 use Rattle.std.specs.Prelude.{◌≡◌, ℕ, ℤ, Bool, true, false, not, List, [], ◌∷◌, ◌++◌, map, filter, length, Option, None, is_some, if◌then◌else◌}
 use Rattle.std.specs.List.{list_any, IsDistinct}
 use Rattle.std.specs.Map.{lookup, keys_of}
-use Rattle.machine.specs.declared.datum.Datum.{Datum}
-use Rattle.eutxo_types.specs.declared.lock.Lock.{Lock}
-use Rattle.eutxo_types.specs.declared.output.Output.{Output}
-use Rattle.eutxo_types.specs.declared.output_ref.OutputRef.{OutputRef}
-use Rattle.eutxo_types.specs.declared.output_ref.OutputRef.TheVariants.{Made}
-use Rattle.eutxo_types.specs.declared.tx.Tx.{Tx}
-use Rattle.eutxo_types.specs.Ids.{id_of}
-use Rattle.eutxo_types.specs.Parts.{same_bytes, same_ref}
-use Rattle.eutxo.specs.Blocks.{Block, blocks_on, places_in}
-use Rattle.eutxo.specs.Found.{with_outputs}
-use Rattle.eutxo.specs.Judgement.{Moment}
-use Rattle.roles.specs.declared.published.Published.{Published}
-use Rattle.roles.specs.Steps.{marlowe}
-use Rattle.ledger.specs.declared.look.Unspent.{Unspent}
-use Rattle.ledger_laws.specs.Past.{Past, created_by, is_input_of, unspent}
-use Rattle.ledger_laws.specs.Threads.{next_of}
+use Rattle.ledger_spec.specs.Machine.declared.datum.Datum.{Datum}
+use Rattle.ledger_spec.specs.EutxoTypes.declared.lock.Lock.{Lock}
+use Rattle.ledger_spec.specs.EutxoTypes.declared.output.Output.{Output}
+use Rattle.ledger_spec.specs.EutxoTypes.declared.output_ref.OutputRef.{OutputRef}
+use Rattle.ledger_spec.specs.EutxoTypes.declared.output_ref.OutputRef.TheVariants.{Made}
+use Rattle.ledger_spec.specs.EutxoTypes.declared.tx.Tx.{Tx}
+use Rattle.ledger_spec.specs.EutxoTypes.Ids.{id_of}
+use Rattle.ledger_spec.specs.EutxoTypes.Parts.{same_bytes, same_ref}
+use Rattle.ledger_spec.specs.Eutxo.Blocks.{Block, blocks_on, places_in}
+use Rattle.ledger_spec.specs.Eutxo.Found.{with_outputs}
+use Rattle.ledger_spec.specs.Eutxo.Judgement.{Moment}
+use Rattle.ledger_spec.specs.Roles.declared.published.Published.{Published}
+use Rattle.ledger_spec.specs.Roles.Steps.{marlowe}
+use Rattle.ledger_spec.specs.Ledger.declared.look.Unspent.{Unspent}
+use Rattle.ledger_spec.specs.LedgerLaws.Past.{Past, created_by, is_input_of, unspent}
+use Rattle.ledger_spec.specs.LedgerLaws.Threads.{next_of}
 use Rattle.ledger_spec.specs.Replay.{published_at}
 use Rattle.ledger_spec.specs.Views.{unspent_of}
 use Rattle.chain_index.specs.declared.moves.Move.{Move}

@@ -1,7 +1,7 @@
 -- No reader needs this file: entries by reference, in order, with holes where some were taken out.
 use Rattle.std.specs.Prelude.{◌≡◌, true, not, if◌then◌else◌, List, [], ◌∷◌, ◌++◌, filter, Option, Some, None}
 use Rattle.std.specs.Map.{keys_of}
-use Rattle.eutxo_types.specs.declared.output_ref.OutputRef.{OutputRef}
+use Rattle.ledger_spec.specs.EutxoTypes.declared.output_ref.OutputRef.{OutputRef}
 use Rattle.chain_index.specs.Contents.{is_among}
 
 abbrev pub with_live : {V : Type 0} → OutputRef → Option V → List (OutputRef × V) → List (OutputRef × V)

@@ -3,19 +3,19 @@ use Rattle.std.specs.Prelude.{◌≡◌, ℕ, ℤ, List, [], ◌∷◌, ◌++◌
 use Rattle.std.specs.List.{list_any}
 use Rattle.std.specs.Map.{lookup}
 use Rattle.std.specs.Option.{option_map}
-use Rattle.eutxo_types.specs.declared.output.Output.{Output}
-use Rattle.eutxo_types.specs.declared.output_ref.OutputRef.{OutputRef}
-use Rattle.eutxo_types.specs.declared.tx.Tx.{Tx}
-use Rattle.eutxo_types.specs.Parts.{Instance, same_ref}
-use Rattle.eutxo.specs.Asked.{Judges}
-use Rattle.eutxo.specs.Blocks.{places_in}
-use Rattle.eutxo.specs.Judgement.{found, judge}
-use Rattle.eutxo.specs.Local.{places_of}
-use Rattle.roles.specs.declared.published.Published.{Published}
-use Rattle.roles.specs.Steps.{marlowe}
-use Rattle.ledger_laws.specs.Past.{Past, after, unspent_at}
-use Rattle.ledger_laws.specs.Sound.{moment, IsSound}
-use Rattle.ledger_laws.specs.Threads.{next_of, Link, IsMade, thread, thread_end}
+use Rattle.ledger_spec.specs.EutxoTypes.declared.output.Output.{Output}
+use Rattle.ledger_spec.specs.EutxoTypes.declared.output_ref.OutputRef.{OutputRef}
+use Rattle.ledger_spec.specs.EutxoTypes.declared.tx.Tx.{Tx}
+use Rattle.ledger_spec.specs.EutxoTypes.Parts.{Instance, same_ref}
+use Rattle.ledger_spec.specs.Eutxo.Asked.{Judges}
+use Rattle.ledger_spec.specs.Eutxo.Blocks.{places_in}
+use Rattle.ledger_spec.specs.Eutxo.Judgement.{found, judge}
+use Rattle.ledger_spec.specs.Eutxo.Local.{places_of}
+use Rattle.ledger_spec.specs.Roles.declared.published.Published.{Published}
+use Rattle.ledger_spec.specs.Roles.Steps.{marlowe}
+use Rattle.ledger_spec.specs.LedgerLaws.Past.{Past, after, unspent_at}
+use Rattle.ledger_spec.specs.LedgerLaws.Sound.{moment, IsSound}
+use Rattle.ledger_spec.specs.LedgerLaws.Threads.{next_of, Link, IsMade, thread, thread_end}
 use Rattle.ledger_spec.specs.Replay.{published_at}
 use Rattle.ledger_spec.specs.Views.{starts_in, end_of, made_datum}
 use Rattle.chain_index.specs.declared.moves.StepPlace.{StepPlace}

@@ -1,11 +1,11 @@
 -- No reader needs this file: references of outputs, listed by the locks that the outputs are under.
 use Rattle.std.specs.Prelude.{◌≡◌, Bool, false, not, ◌&&◌, ◌||◌, List, [], Option, Some, None}
 use Rattle.std.specs.Map.{lookup}
-use Rattle.eutxo_types.specs.declared.lock.Lock.{Lock}
-use Rattle.eutxo_types.specs.declared.lock.Lock.TheVariants.{Key, Payout, Contract}
-use Rattle.eutxo_types.specs.declared.output.Output.{Output}
-use Rattle.eutxo_types.specs.declared.output_ref.OutputRef.{OutputRef}
-use Rattle.eutxo_types.specs.Parts.{same_bytes, same_ref}
+use Rattle.ledger_spec.specs.EutxoTypes.declared.lock.Lock.{Lock}
+use Rattle.ledger_spec.specs.EutxoTypes.declared.lock.Lock.TheVariants.{Key, Payout, Contract}
+use Rattle.ledger_spec.specs.EutxoTypes.declared.output.Output.{Output}
+use Rattle.ledger_spec.specs.EutxoTypes.declared.output_ref.OutputRef.{OutputRef}
+use Rattle.ledger_spec.specs.EutxoTypes.Parts.{same_bytes, same_ref}
 use Rattle.indexmap.specs.IndexSet.{IndexSet}
 use Rattle.chain_index.specs.declared.lock_name.LockName.{LockName}
 use Rattle.chain_index.specs.declared.lock_name.LockName.TheVariants.{Address, Role}

@@ -3,12 +3,12 @@
 use Rattle.std.specs.Prelude.{ℕ, zero, suc, ◌+◌, Bool, true, false, if◌then◌else◌, List, [], ◌∷◌, ◌++◌, filter, length, Option, Some, None}
 use Rattle.std.specs.Option.{option_map}
 use Rattle.std.specs.Map.{lookup, keys_of}
-use Rattle.eutxo_types.specs.declared.output_ref.OutputRef.{OutputRef}
-use Rattle.eutxo_types.specs.declared.spend.Spend.{Spend}
-use Rattle.eutxo_types.specs.declared.tx.Tx.{Tx}
-use Rattle.eutxo_types.specs.Parts.{same_ref, is_step}
-use Rattle.ledger_laws.specs.Past.{created_by}
-use Rattle.ledger_laws.specs.Threads.{next_in}
+use Rattle.ledger_spec.specs.EutxoTypes.declared.output_ref.OutputRef.{OutputRef}
+use Rattle.ledger_spec.specs.EutxoTypes.declared.spend.Spend.{Spend}
+use Rattle.ledger_spec.specs.EutxoTypes.declared.tx.Tx.{Tx}
+use Rattle.ledger_spec.specs.EutxoTypes.Parts.{same_ref, is_step}
+use Rattle.ledger_spec.specs.LedgerLaws.Past.{created_by}
+use Rattle.ledger_spec.specs.LedgerLaws.Threads.{next_in}
 use Rattle.ledger_spec.specs.Views.{starts_in}
 use Rattle.chain_index.specs.declared.moves.Move.{Move}
 use Rattle.chain_index.specs.declared.moves.StepPlace.{StepPlace}

@@ -1,9 +1,9 @@
 -- No reader needs this file: references of outputs, by whose they are.
 use Rattle.std.specs.Prelude.{ℕ, List, map, Option, Some}
-use Rattle.eutxo_types.specs.declared.output.Output.{Output}
-use Rattle.eutxo_types.specs.declared.output_ref.OutputRef.{OutputRef}
-use Rattle.eutxo_types.specs.declared.output_ref.OutputRef.TheVariants as ref
-use Rattle.ledger_laws.specs.Past.{with_references}
+use Rattle.ledger_spec.specs.EutxoTypes.declared.output.Output.{Output}
+use Rattle.ledger_spec.specs.EutxoTypes.declared.output_ref.OutputRef.{OutputRef}
+use Rattle.ledger_spec.specs.EutxoTypes.declared.output_ref.OutputRef.TheVariants as ref
+use Rattle.ledger_spec.specs.LedgerLaws.Past.{with_references}
 use Rattle.chain_index.specs.declared.naming.Naming.{Naming}
 use Rattle.chain_index.specs.declared.naming.Naming.TheVariants.{Genesis, Made}
 

@@ -2,17 +2,17 @@
 use Rattle.std.specs.Prelude.{◌≡◌, ℕ, ◌≤◌, ◌||◌, if◌then◌else◌, true, Option, Some, None, List, [], ◌∷◌, ◌++◌, take, map, length}
 use Rattle.std.specs.List.{list_any}
 use Rattle.std.specs.Map.{keys_of, values_of}
-use Rattle.machine.specs.declared.datum.Datum.{Datum}
-use Rattle.eutxo_types.specs.declared.output.Output.{Output}
-use Rattle.eutxo_types.specs.declared.output_ref.OutputRef.{OutputRef}
-use Rattle.eutxo_types.specs.declared.output_ref.OutputRef.TheVariants.{Genesis, Made}
-use Rattle.eutxo_types.specs.declared.spend.Spend.{Spend}
-use Rattle.eutxo_types.specs.declared.tx.Tx.{Tx}
-use Rattle.eutxo_types.specs.Ids.{id_of}
-use Rattle.eutxo_types.specs.Parts.{Instance, same_ref}
-use Rattle.eutxo.specs.Blocks.{places_in}
-use Rattle.roles.specs.declared.published.Published.{Published}
-use Rattle.ledger_laws.specs.Past.{with_references, created_by}
+use Rattle.ledger_spec.specs.Machine.declared.datum.Datum.{Datum}
+use Rattle.ledger_spec.specs.EutxoTypes.declared.output.Output.{Output}
+use Rattle.ledger_spec.specs.EutxoTypes.declared.output_ref.OutputRef.{OutputRef}
+use Rattle.ledger_spec.specs.EutxoTypes.declared.output_ref.OutputRef.TheVariants.{Genesis, Made}
+use Rattle.ledger_spec.specs.EutxoTypes.declared.spend.Spend.{Spend}
+use Rattle.ledger_spec.specs.EutxoTypes.declared.tx.Tx.{Tx}
+use Rattle.ledger_spec.specs.EutxoTypes.Ids.{id_of}
+use Rattle.ledger_spec.specs.EutxoTypes.Parts.{Instance, same_ref}
+use Rattle.ledger_spec.specs.Eutxo.Blocks.{places_in}
+use Rattle.ledger_spec.specs.Roles.declared.published.Published.{Published}
+use Rattle.ledger_spec.specs.LedgerLaws.Past.{with_references, created_by}
 use Rattle.ledger_spec.specs.Views.{starts_in}
 use Rattle.chain_index.specs.declared.moves.Move.{Move}
 use Rattle.chain_index.specs.declared.parts.Sizes.{Sizes}

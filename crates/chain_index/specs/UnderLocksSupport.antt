@@ -3,10 +3,10 @@ use Rattle.std.specs.Prelude.{ℕ, Bool, false, not, ◌&&◌, List, [], ◌∷�
 use Rattle.std.specs.List.{list_any, flat_map}
 use Rattle.std.specs.Ordering.{nat_cmp}
 use Rattle.std.specs.BTreeMap.{is_at}
-use Rattle.eutxo_types.specs.declared.lock.Lock.{Lock}
-use Rattle.eutxo_types.specs.declared.output.Output.{Output}
-use Rattle.eutxo_types.specs.declared.output_ref.OutputRef.{OutputRef}
-use Rattle.ledger.specs.declared.look.Unspent.{Unspent}
+use Rattle.ledger_spec.specs.EutxoTypes.declared.lock.Lock.{Lock}
+use Rattle.ledger_spec.specs.EutxoTypes.declared.output.Output.{Output}
+use Rattle.ledger_spec.specs.EutxoTypes.declared.output_ref.OutputRef.{OutputRef}
+use Rattle.ledger_spec.specs.Ledger.declared.look.Unspent.{Unspent}
 use Rattle.ledger_spec.specs.Views.{unspent_of}
 use Rattle.chain_index.specs.Contents.{is_among}
 use Rattle.chain_index.specs.HolesSupport.{live, staying}

@@ -2,12 +2,12 @@
 ghost use Rattle.std.specs.Prelude.{◌≡◌, ◌+◌, ◌<◌, ◌++◌, ◌∷◌, [], ℕ, true, false, map, length, take, Some, OnOk, OnErr};
 ghost use Rattle.std.specs.List.{IsDistinct};
 ghost use Rattle.std.specs.Map.{keys_of};
-ghost use Rattle.eutxo_types.specs.declared.output_ref.OutputRef.{OutputRef};
-ghost use Rattle.eutxo_types.specs.declared.output_ref.OutputRef.TheVariants.{Made};
-ghost use Rattle.eutxo_types.specs.Ids.{id_of};
-ghost use Rattle.eutxo_types.specs.Parts.{same_ref, steps, contract_count, made_datums, contract_at};
-ghost use Rattle.ledger_laws.specs.Past.{is_input_of};
-ghost use Rattle.ledger_laws.specs.Threads.{next_in};
+ghost use Rattle.ledger_spec.specs.EutxoTypes.declared.output_ref.OutputRef.{OutputRef};
+ghost use Rattle.ledger_spec.specs.EutxoTypes.declared.output_ref.OutputRef.TheVariants.{Made};
+ghost use Rattle.ledger_spec.specs.EutxoTypes.Ids.{id_of};
+ghost use Rattle.ledger_spec.specs.EutxoTypes.Parts.{same_ref, steps, contract_count, made_datums, contract_at};
+ghost use Rattle.ledger_spec.specs.LedgerLaws.Past.{is_input_of};
+ghost use Rattle.ledger_spec.specs.LedgerLaws.Threads.{next_in};
 ghost use Rattle.ledger_spec.specs.Views.{starts_in};
 ghost use Rattle.chain_index.specs.Contents.{is_among};
 ghost use Rattle.chain_index.specs.HolesSupport.{known};
@@ -20,9 +20,8 @@ use crate::holes::{Slots, note, put};
 use crate::moves::{Move, next_in, put_move};
 use crate::naming::{Naming, name_at};
 use crate::outputs::Outputs;
-use collections::{Memory, TryClone};
-use eutxo_types::{Datum, Instance, Output, OutputRef, Spend, Tx, with_datum};
 use indexmap::{IndexMap, IndexSet};
+use ledger_spec::{Datum, Instance, Memory, Output, OutputRef, Spend, TryClone, Tx, with_datum};
 
 // ---- outputs
 

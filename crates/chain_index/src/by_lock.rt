@@ -6,9 +6,8 @@ ghost use Rattle.chain_index.specs.LocksSupport.{IsListedAlike, ListsMore, Lists
 
 use crate::holes::note;
 use crate::lock_name::{LockName, into_name, name_of};
-use collections::Memory;
-use eutxo_types::{Output, OutputRef};
 use indexmap::{IndexMap, IndexSet};
+use ledger_spec::{Memory, Output, OutputRef};
 use std::alloc::AllocError;
 
 pub(crate) type ByLock = IndexMap<LockName, IndexSet<OutputRef>>;

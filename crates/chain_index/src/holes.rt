@@ -3,14 +3,13 @@
 ghost use Rattle.std.specs.Prelude.{◌≡◌, ◌++◌, ◌∷◌, [], ◌<◌, false, not, filter, is_some, Some};
 ghost use Rattle.std.specs.Prelude.{IsOk, OnOk, OnErr, option_copied};
 ghost use Rattle.std.specs.Map.{lookup, keys_of};
-ghost use Rattle.eutxo_types.specs.Parts.{same_ref};
+ghost use Rattle.ledger_spec.specs.EutxoTypes.Parts.{same_ref};
 ghost use Rattle.indexmap.specs.IndexMap.{spare};
 ghost use Rattle.chain_index.specs.Contents.{is_among};
 ghost use Rattle.chain_index.specs.HolesSupport.{live, known, with_key, AreAmong};
 
-use collections::Memory;
-use eutxo_types::OutputRef;
 use indexmap::{IndexMap, IndexSet};
+use ledger_spec::{Memory, OutputRef};
 use std::alloc::AllocError;
 
 pub(crate) type Slots<V> = IndexMap<OutputRef, Option<V>>;

@@ -1,9 +1,9 @@
 //! The index.
 ghost use Rattle.std.specs.Prelude.{◌≡◌, [], None, IfOk, OnOk, OnErr, position, option_copied};
 ghost use Rattle.std.specs.Map.{lookup};
-ghost use Rattle.eutxo_types.specs.Ids.{id_of};
-ghost use Rattle.eutxo_types.specs.Parts.{same_bytes, same_ref};
-ghost use Rattle.eutxo.specs.Blocks.{places_in};
+ghost use Rattle.ledger_spec.specs.EutxoTypes.Ids.{id_of};
+ghost use Rattle.ledger_spec.specs.EutxoTypes.Parts.{same_bytes, same_ref};
+ghost use Rattle.ledger_spec.specs.Eutxo.Blocks.{places_in};
 ghost use Rattle.ledger_spec.specs.Replay.{published_at};
 ghost use Rattle.ledger_spec.specs.Views.{is_key_of, is_payout_of};
 ghost use Rattle.chain_index.specs.Contents.{beginning, blocks_in, accepting, publishing, CanBeAdded};
@@ -12,11 +12,10 @@ ghost use Rattle.chain_index.specs.Moves.{along};
 
 use crate::moves::StepPlace;
 use crate::parts::{Parts, Sizes};
-use collections::{Items, Memory, Text};
-use eutxo::{Places, Shared};
-use eutxo_types::{Datum, Output, OutputRef, Tx};
-use ledger::{PayoutLock, Unspent};
-use roles::Published;
+use ledger_spec::{
+    Datum, Items, Memory, Output, OutputRef, PayoutLock, Places, Published, Shared, Text, Tx,
+    Unspent,
+};
 use std::alloc::Global;
 use std::marker::Model;
 
@@ -36,10 +35,10 @@ pub struct Index {
 
 impl Model for Index {
     ghost use Rattle.std.specs.Coded.{codes};
-    ghost use Rattle.machine.specs.contracts.datum.Datum as brought;
-    ghost use Rattle.eutxo_types.specs.contracts.output.Output as outputs;
-    ghost use Rattle.eutxo_types.specs.contracts.output_ref.OutputRef as references;
-    ghost use Rattle.roles.specs.contracts.published.Published as publications;
+    ghost use Rattle.ledger_spec.specs.Machine.contracts.datum.Datum as brought;
+    ghost use Rattle.ledger_spec.specs.EutxoTypes.contracts.output.Output as outputs;
+    ghost use Rattle.ledger_spec.specs.EutxoTypes.contracts.output_ref.OutputRef as references;
+    ghost use Rattle.ledger_spec.specs.Roles.contracts.published.Published as publications;
     ghost use Rattle.chain_index.specs.contracts.moves.Move as move_rows;
     ghost use Rattle.chain_index.specs.Contents.{Indexed};
     ghost use Rattle.chain_index.specs.PartsSupport.{IsIndex, indexed};

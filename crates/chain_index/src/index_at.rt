@@ -3,10 +3,7 @@ ghost use Rattle.std.specs.Prelude.{◌≡◌};
 ghost use Rattle.chain_index.specs.Contents.{moment_at};
 
 use crate::index::Index;
-use eutxo::Shared;
-use eutxo_types::{Output, OutputRef};
-use ledger::{Ledger, Resolves};
-use roles::Published;
+use ledger_spec::{Ledger, Output, OutputRef, Published, Resolves, Shared};
 
 /// What is indexed, at a tick in POSIX milliseconds, as the rules read it.
 #[derive(Clone, Copy)]

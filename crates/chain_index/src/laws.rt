@@ -1,11 +1,11 @@
 //! Laws of what is indexed, each the contract of a function that does nothing.
-ghost use Rattle.roles.specs.Steps.{marlowe};
+ghost use Rattle.ledger_spec.specs.Roles.Steps.{marlowe};
 ghost use Rattle.chain_index.specs.Laws.{ReadsAlike, AcceptsAlike, PlacesAlike, PublishesAlike, JudgedCanBeAdded};
 ghost use Rattle.chain_index.specs.Laws.{ThreadsAlike, EndsAlike, StartsAlike, DataAlike};
 
-use eutxo::{found_is_enough, found_tells_places};
-use ledger_laws::{accepting_is_sound, threads_stay};
-use roles::Published;
+use ledger_spec::{
+    Published, accepting_is_sound, found_is_enough, found_tells_places, threads_stay,
+};
 
 /// The rules read the same of what is indexed of a past as of the past.
 pub fn index_reads_alike()

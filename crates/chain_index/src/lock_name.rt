@@ -2,8 +2,7 @@
 ghost use Rattle.std.specs.Prelude.{◌≡◌, IfOk};
 ghost use Rattle.chain_index.specs.LocksSupport.{name_in, is_named};
 
-use collections::{Bytes, Memory, Text, TryClone};
-use eutxo_types::{Lock, Output};
+use ledger_spec::{Bytes, Lock, Memory, Output, Text, TryClone};
 
 /// What outputs are looked up by: the address of a key, or the currency symbol and the role of a payout.
 #[derive(PartialEq, Eq, Hash, Drop)]

@@ -1,14 +1,13 @@
 //! Moves of contracts.
 ghost use Rattle.std.specs.Prelude.{◌≡◌, ◌++◌, ◌∷◌, [], false, Some, OnOk, OnErr, IfOk};
 ghost use Rattle.std.specs.Map.{keys_of};
-ghost use Rattle.eutxo_types.specs.Ids.{id_of};
-ghost use Rattle.ledger_laws.specs.Threads.{next_in};
+ghost use Rattle.ledger_spec.specs.EutxoTypes.Ids.{id_of};
+ghost use Rattle.ledger_spec.specs.LedgerLaws.Threads.{next_in};
 ghost use Rattle.chain_index.specs.Contents.{is_among};
 ghost use Rattle.chain_index.specs.Moves.{step_at, along, leads};
 
-use collections::{Items, Memory};
-use eutxo_types::{OutputRef, Tx};
 use indexmap::IndexMap;
+use ledger_spec::{Items, Memory, OutputRef, Tx};
 use std::alloc::{AllocError, Global};
 
 /// What an accepted transaction did to a contract output that it spent.

@@ -2,7 +2,7 @@
 ghost use Rattle.std.specs.Prelude.{◌≡◌};
 ghost use Rattle.chain_index.specs.NamingSupport.{naming};
 
-use eutxo_types::OutputRef;
+use ledger_spec::OutputRef;
 
 /// Whose outputs are named.
 #[derive(Clone, Copy)]

@@ -1,14 +1,12 @@
 //! Published objects, in order, found by their ids.
 ghost use Rattle.std.specs.Prelude.{◌≡◌, ◌++◌, ◌∷◌, [], None, OnOk, OnErr, option_copied};
 ghost use Rattle.std.specs.Map.{lookup, values_of};
-ghost use Rattle.eutxo_types.specs.Parts.{same_bytes};
+ghost use Rattle.ledger_spec.specs.EutxoTypes.Parts.{same_bytes};
 ghost use Rattle.ledger_spec.specs.Replay.{published_at};
 ghost use Rattle.chain_index.specs.PartsSupport.{AreNamed};
 
-use collections::Memory;
-use eutxo::Shared;
 use indexmap::IndexMap;
-use roles::Published;
+use ledger_spec::{Memory, Published, Shared};
 use std::alloc::AllocError;
 
 pub(crate) type Objects = IndexMap<[u8; 32], Shared<Published>>;

@@ -2,7 +2,7 @@
 ghost use Rattle.std.specs.Prelude.{◌≡◌, ◌++◌, ◌∷◌, [], ◌-◌, ◌||◌, ℕ, false, not, filter, length, take, slice_get};
 ghost use Rattle.std.specs.Prelude.{Some, OnOk, OnErr, option_copied};
 ghost use Rattle.std.specs.Map.{lookup, keys_of};
-ghost use Rattle.eutxo_types.specs.Parts.{same_ref};
+ghost use Rattle.ledger_spec.specs.EutxoTypes.Parts.{same_ref};
 ghost use Rattle.chain_index.specs.Contents.{is_among};
 ghost use Rattle.chain_index.specs.HolesSupport.{live, staying, known, AreAmong};
 ghost use Rattle.chain_index.specs.LocksSupport.{is_named};
@@ -12,10 +12,8 @@ use crate::by_lock::{ByLock, list, refs_under, unlist};
 use crate::holes::{Slots, close_if_many, put, take_out, value_at};
 use crate::lock_name::LockName;
 use crate::places::{collect, show};
-use collections::{Items, Memory};
-use eutxo_types::{Datum, Output, OutputRef};
 use indexmap::{IndexMap, IndexSet};
-use ledger::Unspent;
+use ledger_spec::{Datum, Items, Memory, Output, OutputRef, Unspent};
 use std::alloc::Global;
 use std::collections::BTreeSet;
 use std::marker::Model;
@@ -31,10 +29,10 @@ pub(crate) struct Outputs {
 impl Model for Outputs {
     ghost use Rattle.std.specs.Prelude.{List, Option};
     ghost use Rattle.std.specs.Coded.{codes};
-    ghost use Rattle.eutxo_types.specs.declared.output.Output.{Output};
-    ghost use Rattle.eutxo_types.specs.declared.output_ref.OutputRef.{OutputRef};
-    ghost use Rattle.eutxo_types.specs.contracts.output.Output as outputs;
-    ghost use Rattle.eutxo_types.specs.contracts.output_ref.OutputRef as references;
+    ghost use Rattle.ledger_spec.specs.EutxoTypes.declared.output.Output.{Output};
+    ghost use Rattle.ledger_spec.specs.EutxoTypes.declared.output_ref.OutputRef.{OutputRef};
+    ghost use Rattle.ledger_spec.specs.EutxoTypes.contracts.output.Output as outputs;
+    ghost use Rattle.ledger_spec.specs.EutxoTypes.contracts.output_ref.OutputRef as references;
     ghost use Rattle.chain_index.specs.HolesSupport.{live};
     ghost use Rattle.chain_index.specs.LocksSupport.{AreListed};
 

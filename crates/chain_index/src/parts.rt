@@ -1,11 +1,11 @@
 //! The lists that an index keeps.
 ghost use Rattle.std.specs.Prelude.{◌≡◌, ◌++◌, ◌∷◌, [], ℕ, false, None, OnOk, OnErr, IfOk, option_copied, position};
 ghost use Rattle.std.specs.Map.{lookup};
-ghost use Rattle.eutxo_types.specs.declared.output_ref.OutputRef.{OutputRef};
-ghost use Rattle.eutxo_types.specs.declared.output_ref.OutputRef.TheVariants.{Made};
-ghost use Rattle.eutxo_types.specs.Ids.{id_of};
-ghost use Rattle.eutxo_types.specs.Parts.{same_bytes, same_ref};
-ghost use Rattle.eutxo.specs.Blocks.{places_in};
+ghost use Rattle.ledger_spec.specs.EutxoTypes.declared.output_ref.OutputRef.{OutputRef};
+ghost use Rattle.ledger_spec.specs.EutxoTypes.declared.output_ref.OutputRef.TheVariants.{Made};
+ghost use Rattle.ledger_spec.specs.EutxoTypes.Ids.{id_of};
+ghost use Rattle.ledger_spec.specs.EutxoTypes.Parts.{same_bytes, same_ref};
+ghost use Rattle.ledger_spec.specs.Eutxo.Blocks.{places_in};
 ghost use Rattle.ledger_spec.specs.Replay.{published_at};
 ghost use Rattle.ledger_spec.specs.Views.{is_key_of, is_payout_of};
 ghost use Rattle.chain_index.specs.Contents.{blocks_in, is_used, is_among, end_in, under_locks_in, CanBeAdded};
@@ -20,12 +20,10 @@ use crate::naming::Naming;
 use crate::objects::{Objects, object_at, put_object};
 use crate::outputs::{Outputs, take_all_out, truncate};
 use crate::under_locks::{keys_shown, payouts_shown};
-use collections::{Items, Memory, Text};
-use eutxo::Shared;
-use eutxo_types::{Datum, Output, OutputRef, Tx};
 use indexmap::{IndexMap, IndexSet};
-use ledger::{PayoutLock, Unspent};
-use roles::Published;
+use ledger_spec::{
+    Datum, Items, Memory, Output, OutputRef, PayoutLock, Published, Shared, Text, Tx, Unspent,
+};
 use std::alloc::{AllocError, Global};
 use std::marker::Model;
 
@@ -60,10 +58,10 @@ pub(crate) struct Parts {
 impl Model for Parts {
     ghost use Rattle.std.specs.Coded.{codes};
     ghost use Rattle.std.specs.Map.{values_of};
-    ghost use Rattle.machine.specs.contracts.datum.Datum as brought;
-    ghost use Rattle.eutxo_types.specs.contracts.output.Output as made;
-    ghost use Rattle.eutxo_types.specs.contracts.output_ref.OutputRef as references;
-    ghost use Rattle.roles.specs.contracts.published.Published as publications;
+    ghost use Rattle.ledger_spec.specs.Machine.contracts.datum.Datum as brought;
+    ghost use Rattle.ledger_spec.specs.EutxoTypes.contracts.output.Output as made;
+    ghost use Rattle.ledger_spec.specs.EutxoTypes.contracts.output_ref.OutputRef as references;
+    ghost use Rattle.ledger_spec.specs.Roles.contracts.published.Published as publications;
     ghost use Rattle.chain_index.specs.contracts.moves.Move as move_rows;
     ghost use Rattle.chain_index.specs.PartsSupport.{Parts, AreNamed};
 

@@ -1,16 +1,14 @@
 //! Places of entries, and the outputs at them.
 ghost use Rattle.std.specs.Prelude.{◌≡◌, ◌++◌, ◌||◌, ◌&&◌, ℕ, slice_get, Some, OnOk};
-ghost use Rattle.eutxo_types.specs.Parts.{same_ref};
+ghost use Rattle.ledger_spec.specs.EutxoTypes.Parts.{same_ref};
 ghost use Rattle.chain_index.specs.Contents.{is_among};
 ghost use Rattle.chain_index.specs.LocksSupport.{is_named};
 ghost use Rattle.chain_index.specs.UnderLocksSupport.{is_shown, passes_at, is_place, has_place, row};
 
 use crate::holes::{Slots, is_noted};
 use crate::lock_name::{LockName, is_named};
-use collections::{Items, Memory, TryClone};
-use eutxo_types::{Output, OutputRef};
 use indexmap::IndexSet;
-use ledger::Unspent;
+use ledger_spec::{Items, Memory, Output, OutputRef, TryClone, Unspent};
 use std::alloc::AllocError;
 use std::collections::BTreeSet;
 

@@ -7,10 +7,8 @@ ghost use Rattle.chain_index.specs.UnderLocksSupport.{under, is_shown, passes_at
 
 use crate::lock_name::LockName;
 use crate::outputs::Outputs;
-use collections::{Items, Memory, Text, TryClone};
-use eutxo_types::OutputRef;
 use indexmap::IndexSet;
-use ledger::{PayoutLock, Unspent};
+use ledger_spec::{Items, Memory, OutputRef, PayoutLock, Text, TryClone, Unspent};
 use std::alloc::Global;
 use std::collections::BTreeSet;
 

@@ -4,8 +4,8 @@ use Rattle.std.proofs.lemmas.Int.{ints, int_max_is}
 use Rattle.std.specs.Int.{int_max}
 use Rattle.std.specs.Option.{option_and_then}
 use Rattle.contract.specs.Tree.{ActionTree, ContractTree, CaseTrees, close, pay, if_obs, when, let_be, assert, no_cases, case_then}
-use Rattle.evaluation.specs.Path.{Turn, refund, next, then_branch, else_branch, timed_out, in_case, case_list, part, along}
-use Rattle.evaluation.specs.Timeouts.{later, last, last_in}
+use Rattle.semantics.specs.Evaluation.Path.{Turn, refund, next, then_branch, else_branch, timed_out, in_case, case_list, part, along}
+use Rattle.semantics.specs.Evaluation.Timeouts.{later, last, last_in}
 use Rattle.semantics.specs.Closing.{HasReached}
 
 -- ---- the later of two times

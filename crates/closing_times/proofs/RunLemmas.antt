@@ -5,8 +5,8 @@ use Rattle.contract.specs.declared.fault.SemFault.{SemFault}
 use Rattle.contract.specs.declared.fault.SemFault.TheVariants.{Leaves128}
 use Rattle.contract.specs.declared.interval.Interval.{Interval}
 use Rattle.contract.specs.declared.transaction.Transaction.{Transaction}
-use Rattle.evaluation.specs.Numbers.{all_fit}
-use Rattle.evaluation.specs.Timeouts.{last}
+use Rattle.semantics.specs.Evaluation.Numbers.{all_fit}
+use Rattle.semantics.specs.Evaluation.Timeouts.{last}
 use Rattle.semantics.specs.Walk.{Standing, standing, answer_of}
 use Rattle.semantics.specs.Computed.{computed}
 use Rattle.semantics.specs.Closing.{HasReached, ClosesSo, ClosesAfterLast}

@@ -6,8 +6,8 @@ use Rattle.contract.specs.declared.fault.SemFault.TheVariants.{Useless}
 use Rattle.contract.specs.declared.interval.Interval.{Interval}
 use Rattle.contract.specs.declared.transaction.Transaction.{Transaction}
 use Rattle.contract.specs.Tree.{ContractTree}
-use Rattle.states.specs.States.{StateMaps}
-use Rattle.evaluation.specs.Timeouts.{last}
+use Rattle.contract.specs.States.States.{StateMaps}
+use Rattle.semantics.specs.Evaluation.Timeouts.{last}
 use Rattle.semantics.specs.Walk.{Standing, standing, answer_of}
 use Rattle.semantics.specs.Computed.{computed}
 use Rattle.semantics.specs.Closing.{HasReached, IsSpent}

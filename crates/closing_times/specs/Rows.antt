@@ -2,8 +2,8 @@
 use Rattle.std.specs.Prelude.{◌≡◌, pos, [], None, Some, Ok, Err}
 use Rattle.contract.specs.declared.fault.SemFault.TheVariants.{Useless, IntervalInPast}
 use Rattle.contract.specs.Tree.{ContractTree, notify, true_obs, close, when, no_cases, case_then}
-use Rattle.evaluation.specs.Timeouts.{last}
-use Rattle.states.specs.States.{StateMaps}
+use Rattle.semantics.specs.Evaluation.Timeouts.{last}
+use Rattle.contract.specs.States.States.{StateMaps}
 use Rattle.semantics.specs.Walk.{standing, answer_of}
 use Rattle.semantics.specs.Computed.{computed}
 use Rattle.semantics.specs.Rows.{interval, nothing}

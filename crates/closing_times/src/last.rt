@@ -1,10 +1,9 @@
 //! The last timeout of a contract.
 ghost use Rattle.std.specs.Prelude.{◌≡◌, map};
 ghost use Rattle.contract.specs.Tree.{contract_tree, case_tree, case_trees};
-ghost use Rattle.evaluation.specs.Timeouts.{later, last, last_in};
+ghost use Rattle.semantics.specs.Evaluation.Timeouts.{later, last, last_in};
 
-use collections::Items;
-use contract::{Case, Contract};
+use contract::{Case, Contract, Items};
 
 /// The greatest timeout of all Whens of a contract, those in its cases too; none without a When. Takes no memory.
 #[cycle(last_timeout)]

@@ -9,15 +9,15 @@ use Rattle.std.specs.Cmp.{tied_itself}
 use Rattle.std.specs.declared.cmp.Ordering.{Ordering}
 use Rattle.std.specs.declared.cmp.Ordering.TheVariants.{Less, Equal, Greater}
 use Rattle.std.specs.FinMap.{get}
-use Rattle.names.specs.declared.token.Token.{Token}
-use Rattle.names.specs.Orders.{token_cmp}
-use Rattle.names.specs.Totals.{token_total}
-use Rattle.names.proofs.Exact.{token_exact}
-use Rattle.bundle.specs.Bundles.{Amounts, amount_of}
-use Rattle.bundle.specs.Totals.{total_of}
-use Rattle.bundle.proofs.PositiveLaws.{amount_of-natural}
-use Rattle.eutxo.specs.Differing.{lesser, least}
-use Rattle.ledger.specs.declared.look.Unspent.{Unspent}
+use Rattle.contract.specs.Names.declared.token.Token.{Token}
+use Rattle.contract.specs.Names.Orders.{token_cmp}
+use Rattle.contract.specs.Names.Totals.{token_total}
+use Rattle.contract.proofs.FromNames.Exact.{token_exact}
+use Rattle.builder_spec.specs.Bundle.Bundles.{Amounts, amount_of}
+use Rattle.builder_spec.specs.Bundle.Totals.{total_of}
+use Rattle.builder_spec.proofs.FromBundle.PositiveLaws.{amount_of-natural}
+use Rattle.builder_spec.specs.Eutxo.Differing.{lesser, least}
+use Rattle.builder_spec.specs.Ledger.declared.look.Unspent.{Unspent}
 use Rattle.builder_spec.specs.Holding.{amount_in, holds_token, wanted, lacks, least_lacking, AreBundles}
 use Rattle.builder_spec.specs.Fronts.{suffices}
 use Rattle.builder_spec.proofs.HoldingLaws.{total_of-natural}

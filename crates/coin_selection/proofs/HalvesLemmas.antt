@@ -2,7 +2,7 @@
 use Rattle.std.proofs.Common.{◌≡◌, ℕ, ◌<◌, ◌≤◌, ◌+ℤ◌, true, List, [], ◌∷◌, ◌++◌, length, take, drop, get_or, sym, ◌∙◌, ap, subst, arith}
 use Rattle.std.proofs.lemmas.List.{take-append-drop}
 use Rattle.std.specs.FinMap.{entries}
-use Rattle.bundle.specs.Bundles.{Amounts, AllPositive, each, plus}
+use Rattle.builder_spec.specs.Bundle.Bundles.{Amounts, AllPositive, each, plus}
 use Rattle.builder_spec.specs.Holding.{sums, AreBundles}
 use Rattle.builder_spec.specs.Causes.{is_much}
 use Rattle.builder_spec.proofs.HoldingLaws.{entries-empty, sums_append, positive_sums, much_left, much_right}

@@ -3,11 +3,11 @@ use Rattle.std.proofs.Common.{◌≡◌, ℕ, zero, suc, ◌+◌, ◌-◌, ◌<�
 use Rattle.std.proofs.lemmas.List.{drop_more}
 use Rattle.std.specs.List.{list_any}
 use Rattle.std.specs.FinMap.{entries}
-use Rattle.bundle.specs.Bundles.{Amounts, AllPositive}
-use Rattle.eutxo_types.specs.declared.output_ref.OutputRef.{OutputRef}
-use Rattle.eutxo_types.specs.declared.output_ref.OutputRef.TheVariants.{Genesis, Made}
+use Rattle.builder_spec.specs.Bundle.Bundles.{Amounts, AllPositive}
+use Rattle.builder_spec.specs.EutxoTypes.declared.output_ref.OutputRef.{OutputRef}
+use Rattle.builder_spec.specs.EutxoTypes.declared.output_ref.OutputRef.TheVariants.{Genesis, Made}
 use Rattle.std.specs.Prelude.{◌==◌, ◌&&◌}
-use Rattle.eutxo_types.specs.Parts.{same_bytes, same_ref}
+use Rattle.builder_spec.specs.EutxoTypes.Parts.{same_bytes, same_ref}
 use Rattle.builder_spec.specs.Causes.{has_repeat}
 use Rattle.builder_spec.specs.Holding.{AreBundles}
 

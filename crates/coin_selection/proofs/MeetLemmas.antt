@@ -8,11 +8,11 @@ use Rattle.std.specs.FinMap.Entries.{find, is_sorted, below_all}
 use Rattle.std.specs.Option.{unwrap_or, IfSome}
 use Rattle.std.specs.Ordering.{eq_by_cmp, is_eq}
 use Rattle.std.specs.declared.cmp.Ordering.TheVariants.{Less, Equal, Greater}
-use Rattle.collections.proofs.Places.{second, third, below_head, below_tail, below_equal}
-use Rattle.names.specs.declared.token.Token.{Token}
-use Rattle.names.specs.Orders.{token_cmp}
-use Rattle.names.specs.Totals.{token_total}
-use Rattle.bundle.specs.Bundles.{Amounts, amount_of}
+use Rattle.contract.proofs.FromCollections.Places.{second, third, below_head, below_tail, below_equal}
+use Rattle.contract.specs.Names.declared.token.Token.{Token}
+use Rattle.contract.specs.Names.Orders.{token_cmp}
+use Rattle.contract.specs.Names.Totals.{token_total}
+use Rattle.builder_spec.specs.Bundle.Bundles.{Amounts, amount_of}
 use Rattle.coin_selection.specs.MissingSupport.{left, InRange}
 use Rattle.coin_selection.specs.MeetSupport.{left_after}
 

@@ -11,11 +11,11 @@ use Rattle.std.specs.Option.{unwrap_or, IfSome, IsSome}
 use Rattle.std.specs.Ordering.{eq_by_cmp, is_eq, is_lt, is_gt, ordering_reverse}
 use Rattle.std.specs.declared.cmp.Ordering.{Ordering}
 use Rattle.std.specs.declared.cmp.Ordering.TheVariants.{Less, Equal, Greater}
-use Rattle.names.specs.declared.token.Token.{Token}
-use Rattle.names.specs.Orders.{token_cmp}
-use Rattle.names.specs.Totals.{token_total}
-use Rattle.names.proofs.Exact.{token_exact}
-use Rattle.bundle.specs.Bundles.{Amounts, amount_of}
+use Rattle.contract.specs.Names.declared.token.Token.{Token}
+use Rattle.contract.specs.Names.Orders.{token_cmp}
+use Rattle.contract.specs.Names.Totals.{token_total}
+use Rattle.contract.proofs.FromNames.Exact.{token_exact}
+use Rattle.builder_spec.specs.Bundle.Bundles.{Amounts, amount_of}
 use Rattle.coin_selection.specs.MissingSupport.{left, InRange, IsLeast}
 
 -- what a tree has of a token

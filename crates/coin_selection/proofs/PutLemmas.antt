@@ -3,7 +3,7 @@ use Rattle.std.proofs.Common.{◌≡◌, ℕ, ◌+◌, ◌<◌, List, [], ◌∷
 use Rattle.std.specs.List.{filter_map, cons_option}
 use Rattle.std.proofs.lemmas.List.Elements.{filter_map-append}
 use Rattle.contract.specs.declared.input.Input.{Input}
-use Rattle.roles.specs.Steps.{actor}
+use Rattle.builder_spec.specs.Roles.Steps.{actor}
 use Rattle.builder_spec.specs.Steps.{deposit_of, deposits, token_of, roles_of}
 use Rattle.coin_selection.proofs.ListLaws.{here}
 

@@ -8,14 +8,14 @@ use Rattle.std.specs.Cmp.{tied_itself}
 use Rattle.std.specs.declared.cmp.Ordering.{Ordering}
 use Rattle.std.specs.declared.cmp.Ordering.TheVariants.{Less, Equal, Greater}
 use Rattle.std.specs.FinMap.{entries, get}
-use Rattle.names.specs.declared.token.Token.{Token}
-use Rattle.names.specs.Orders.{token_cmp}
-use Rattle.names.specs.Totals.{token_total}
-use Rattle.names.proofs.Exact.{token_exact}
-use Rattle.states.specs.States.{counted}
-use Rattle.bundle.specs.Bundles.{Amounts, amount_of, AllPositive}
-use Rattle.bundle.specs.Totals.{total_of}
-use Rattle.bundle.proofs.PositiveLaws.{amount_of-natural}
+use Rattle.contract.specs.Names.declared.token.Token.{Token}
+use Rattle.contract.specs.Names.Orders.{token_cmp}
+use Rattle.contract.specs.Names.Totals.{token_total}
+use Rattle.contract.proofs.FromNames.Exact.{token_exact}
+use Rattle.contract.specs.States.States.{counted}
+use Rattle.builder_spec.specs.Bundle.Bundles.{Amounts, amount_of, AllPositive}
+use Rattle.builder_spec.specs.Bundle.Totals.{total_of}
+use Rattle.builder_spec.proofs.FromBundle.PositiveLaws.{amount_of-natural}
 use Rattle.coin_selection.specs.MissingSupport.{left}
 use Rattle.builder_spec.specs.Holding.{wanted}
 use Rattle.builder_spec.proofs.HoldingLaws.{total_of-append}

@@ -6,15 +6,15 @@ use Rattle.std.specs.Ordering.{eq_by_cmp, is_eq}
 use Rattle.std.specs.Prelude.{is_some}
 use Rattle.std.specs.FinMap.{get}
 use Rattle.std.specs.Cmp.{tied_itself}
-use Rattle.names.specs.declared.party.Party.{Party}
-use Rattle.names.specs.declared.party.Party.TheVariants.{Address, Role}
-use Rattle.names.specs.declared.token.Token.{Token}
-use Rattle.names.specs.Orders.{token_cmp}
-use Rattle.names.specs.Totals.{token_total}
+use Rattle.contract.specs.Names.declared.party.Party.{Party}
+use Rattle.contract.specs.Names.declared.party.Party.TheVariants.{Address, Role}
+use Rattle.contract.specs.Names.declared.token.Token.{Token}
+use Rattle.contract.specs.Names.Orders.{token_cmp}
+use Rattle.contract.specs.Names.Totals.{token_total}
 use Rattle.contract.specs.declared.input.Input.{Input}
-use Rattle.bundle.specs.Bundles.{Amounts}
-use Rattle.roles.specs.Steps.{role_token, actor}
-use Rattle.ledger.specs.declared.look.Unspent.{Unspent}
+use Rattle.builder_spec.specs.Bundle.Bundles.{Amounts}
+use Rattle.builder_spec.specs.Roles.Steps.{role_token, actor}
+use Rattle.builder_spec.specs.Ledger.declared.look.Unspent.{Unspent}
 use Rattle.builder_spec.specs.Holding.{amount_in, holds_token, first_unheld, AreBundles}
 use Rattle.builder_spec.specs.Steps.{token_of, roles_of, may_act, first_barred}
 use Rattle.coin_selection.specs.RequiredSupport.{lacking_amount, IsMissing, may_act_but}

@@ -4,8 +4,8 @@ use Rattle.std.specs.Prelude.{nat_lt}
 use Rattle.std.proofs.lemmas.Bool.Decides.{nat_tests}
 use Rattle.std.proofs.lemmas.List.{length-append, take_all}
 use Rattle.std.specs.FinMap.{entries}
-use Rattle.bundle.specs.Bundles.{plus, AllPositive}
-use Rattle.ledger.specs.declared.look.Unspent.{Unspent}
+use Rattle.builder_spec.specs.Bundle.Bundles.{plus, AllPositive}
+use Rattle.builder_spec.specs.Ledger.declared.look.Unspent.{Unspent}
 use Rattle.builder_spec.specs.declared.fault.BuildFault.TheVariants.{TooMany}
 use Rattle.builder_spec.specs.Holding.{sums, amount_in, AreBundles}
 use Rattle.builder_spec.specs.Causes.{is_much, is_over, limit_cause}

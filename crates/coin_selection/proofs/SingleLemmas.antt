@@ -3,19 +3,19 @@ use Rattle.std.proofs.Common.{◌≡◌, ℤ, pos, ◌+ℤ◌, ◌<ℤ◌, ◌�
 use Rattle.std.proofs.lemmas.Int.{ints}
 use Rattle.std.specs.FinMap.{entries, empty, entries-insert}
 use Rattle.std.specs.FinMap.Entries.{put}
-use Rattle.collections.specs.Total.{total}
-use Rattle.names.specs.declared.account.Account.{Account}
-use Rattle.names.specs.declared.token.Token.{Token}
-use Rattle.names.specs.Orders.{token_cmp}
-use Rattle.names.specs.Totals.{token_total}
-use Rattle.states.specs.States as states
-use Rattle.states.specs.States.{in_token}
-use Rattle.bundle.specs.Bundles.{Amounts, amount_of, AllPositive}
-use Rattle.bundle.specs.Totals.{total_of}
-use Rattle.bundle.proofs.ApartLaws.{amounts_tell_apart}
-use Rattle.bundle.proofs.PositiveLaws.{amount_of-natural}
-use Rattle.roles.specs.Steps.{only}
-use Rattle.roles.specs.Sums.{sums_in}
+use Rattle.contract.specs.Collections.Total.{total}
+use Rattle.contract.specs.Names.declared.account.Account.{Account}
+use Rattle.contract.specs.Names.declared.token.Token.{Token}
+use Rattle.contract.specs.Names.Orders.{token_cmp}
+use Rattle.contract.specs.Names.Totals.{token_total}
+use Rattle.contract.specs.States.States as states
+use Rattle.contract.specs.States.States.{in_token}
+use Rattle.builder_spec.specs.Bundle.Bundles.{Amounts, amount_of, AllPositive}
+use Rattle.builder_spec.specs.Bundle.Totals.{total_of}
+use Rattle.builder_spec.proofs.FromBundle.ApartLaws.{amounts_tell_apart}
+use Rattle.builder_spec.proofs.FromBundle.PositiveLaws.{amount_of-natural}
+use Rattle.builder_spec.specs.Roles.Steps.{only}
+use Rattle.builder_spec.specs.Roles.Sums.{sums_in}
 use Rattle.builder_spec.specs.Holding.{sums, AreBundles}
 use Rattle.builder_spec.proofs.HoldingLaws.{entries-empty, amount_of-sums, positive_with, positive_sums}
 use Rattle.builder_spec.proofs.FundsLaws.{amount_of-only, amount_of-sums_in}

@@ -1,8 +1,8 @@
 -- The shortest front that has one output at least.
 use Rattle.std.proofs.Common.{◌≡◌, ℤ, ℕ, zero, suc, ◌<◌, Bool, true, false, not, ◌&&◌, List, [], ◌∷◌, length, take, refl, sym, subst, ◌⊎◌, inl, inr, arith}
-use Rattle.eutxo.specs.Faults.{is_empty}
-use Rattle.names.specs.declared.token.Token.{Token}
-use Rattle.ledger.specs.declared.look.Unspent.{Unspent}
+use Rattle.builder_spec.specs.Eutxo.Faults.{is_empty}
+use Rattle.contract.specs.Names.declared.token.Token.{Token}
+use Rattle.builder_spec.specs.Ledger.declared.look.Unspent.{Unspent}
 use Rattle.builder_spec.specs.Holding.{amount_in, AreBundles}
 use Rattle.builder_spec.specs.Fronts.{shortest, suffices}
 use Rattle.builder_spec.specs.FrontsSupport.{IsShortest}

@@ -1,8 +1,8 @@
 -- What it means that a check is passed, and that a sum is refused.
 use Rattle.std.specs.Prelude.{◌≡◌, ◌≢◌, ◌⊎◌, true, Option, Some, None, Result, MatchResult, IfErr}
-use Rattle.bundle.specs.declared.fault.BundleFault.{BundleFault}
-use Rattle.bundle.specs.declared.fault.BundleFault.TheVariants as sums
-use Rattle.bundle.specs.Bundles.{Amounts}
+use Rattle.builder_spec.specs.Bundle.declared.fault.BundleFault.{BundleFault}
+use Rattle.builder_spec.specs.Bundle.declared.fault.BundleFault.TheVariants as sums
+use Rattle.builder_spec.specs.Bundle.Bundles.{Amounts}
 use Rattle.builder_spec.specs.declared.fault.BuildFault.{BuildFault}
 use Rattle.builder_spec.specs.declared.fault.BuildFault.TheVariants.{Memory}
 use Rattle.builder_spec.specs.Causes.{is_much}

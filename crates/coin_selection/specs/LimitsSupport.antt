@@ -1,7 +1,7 @@
 -- No reader needs this file: a set of references that grows.
 use Rattle.std.specs.Prelude.{◌≡◌, Bool, true, if◌then◌else◌}
-use Rattle.eutxo_types.specs.declared.output_ref.OutputRef.{OutputRef}
-use Rattle.eutxo_types.specs.Parts.{same_ref}
+use Rattle.builder_spec.specs.EutxoTypes.declared.output_ref.OutputRef.{OutputRef}
+use Rattle.builder_spec.specs.EutxoTypes.Parts.{same_ref}
 
 -- it has what it had, and one more
 abbrev pub HasAlso : (OutputRef → Bool) → (OutputRef → Bool) → OutputRef → Type 0

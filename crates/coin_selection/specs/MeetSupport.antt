@@ -1,8 +1,8 @@
 -- No reader needs this file: it serves the proofs of this crate.
 use Rattle.std.specs.Prelude.{ℤ, if◌then◌else◌, List, [], ◌∷◌, Option}
 use Rattle.std.specs.Ordering.{eq_by_cmp}
-use Rattle.names.specs.declared.token.Token.{Token}
-use Rattle.names.specs.Orders.{token_cmp}
+use Rattle.contract.specs.Names.declared.token.Token.{Token}
+use Rattle.contract.specs.Names.Orders.{token_cmp}
 use Rattle.coin_selection.specs.MissingSupport.{left}
 
 -- what is left of a token's need, one entry after another

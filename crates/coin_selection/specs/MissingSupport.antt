@@ -3,9 +3,9 @@ use Rattle.std.specs.Prelude.{◌≡◌, ℤ, pos, ◌+ℤ◌, ◌-ℤ◌, ◌<�
 use Rattle.std.specs.Option.{IsSome, option_map}
 use Rattle.std.specs.Ordering.{is_lt, eq_by_cmp}
 use Rattle.std.specs.FinMap.{get}
-use Rattle.names.specs.declared.token.Token.{Token}
-use Rattle.names.specs.Orders.{token_cmp}
-use Rattle.bundle.specs.Bundles.{Amounts, amount_of}
+use Rattle.contract.specs.Names.declared.token.Token.{Token}
+use Rattle.contract.specs.Names.Orders.{token_cmp}
+use Rattle.builder_spec.specs.Bundle.Bundles.{Amounts, amount_of}
 
 -- once so much is there: nothing, where that is as much as is needed
 abbrev pub left : Option ℤ → ℤ → Option ℤ

@@ -2,15 +2,15 @@
 use Rattle.std.specs.Prelude.{◌≡◌, ℕ, ℤ, pos, ◌-ℤ◌, int_lt, Bool, not, if◌then◌else◌, List, [], ◌∷◌, Option, Some, None, is_some}
 use Rattle.std.specs.Ordering.{eq_by_cmp}
 use Rattle.std.specs.FinMap.{get}
-use Rattle.names.specs.declared.party.Party.{Party}
-use Rattle.names.specs.declared.party.Party.TheVariants.{Address, Role}
-use Rattle.names.specs.declared.token.Token.{Token}
-use Rattle.names.specs.Orders.{token_cmp}
-use Rattle.bundle.specs.Bundles.{Amounts}
-use Rattle.bundle.specs.Totals.{total_of}
-use Rattle.eutxo.specs.Rules.{has_signed}
-use Rattle.roles.specs.Steps.{role_token}
-use Rattle.ledger.specs.declared.look.Unspent.{Unspent}
+use Rattle.contract.specs.Names.declared.party.Party.{Party}
+use Rattle.contract.specs.Names.declared.party.Party.TheVariants.{Address, Role}
+use Rattle.contract.specs.Names.declared.token.Token.{Token}
+use Rattle.contract.specs.Names.Orders.{token_cmp}
+use Rattle.builder_spec.specs.Bundle.Bundles.{Amounts}
+use Rattle.builder_spec.specs.Bundle.Totals.{total_of}
+use Rattle.builder_spec.specs.Eutxo.Rules.{has_signed}
+use Rattle.builder_spec.specs.Roles.Steps.{role_token}
+use Rattle.builder_spec.specs.Ledger.declared.look.Unspent.{Unspent}
 use Rattle.builder_spec.specs.Holding.{amount_in, wanted}
 
 -- a number, where it is above 0

@@ -1,15 +1,13 @@
 //! What the accounts of a state hold together.
 ghost use Rattle.std.specs.Prelude.{◌≡◌, map, IfOk};
-ghost use Rattle.states.specs.States.{AllPositive};
-ghost use Rattle.roles.specs.Steps.{only};
-ghost use Rattle.roles.specs.Sums.{sums_of};
+ghost use Rattle.contract.specs.States.States.{AllPositive};
+ghost use Rattle.builder_spec.specs.Roles.Steps.{only};
+ghost use Rattle.builder_spec.specs.Roles.Sums.{sums_of};
 ghost use Rattle.coin_selection.specs.Answers.{RefusesMuch};
 
 use crate::sums::{see_all, sum};
-use bundle::{Bundle, BundleFault};
-use collections::Memory;
-use contract::{Account, State};
-use roles::only;
+use builder_spec::{Bundle, BundleFault, only};
+use contract::{Account, Memory, State};
 use std::alloc::Global;
 
 // What each account holds.

@@ -1,16 +1,14 @@
 //! Amounts of tokens that are wanted.
 ghost use Rattle.std.specs.Prelude.{◌≡◌, ◌++◌, pos, ◌<ℤ◌, ◌≤ℤ◌, ◌^◌, map, IfOk, OnOk, OnErr};
-ghost use Rattle.bundle.specs.Bundles.{amount_of};
-ghost use Rattle.states.specs.States.{AllPositive};
-ghost use Rattle.contract_bytes.specs.Writing.{AppendsFront};
+ghost use Rattle.builder_spec.specs.Bundle.Bundles.{amount_of};
+ghost use Rattle.contract.specs.States.States.{AllPositive};
+ghost use Rattle.builder_spec.specs.ContractBytes.Writing.{AppendsFront};
 ghost use Rattle.builder_spec.specs.Starts.{accounts_of};
 ghost use Rattle.builder_spec.specs.Steps.{deposit_of, deposits};
 ghost use Rattle.coin_selection.specs.MissingSupport.{Adds};
 
 use crate::missing::Missing;
-use collections::Memory;
-use contract::{Account, Input, State};
-use names::Token;
+use contract::{Account, Input, Memory, State, Token};
 use std::alloc::Global;
 use std::marker::Model;
 
@@ -23,7 +21,7 @@ pub struct Amount<'a> {
 
 impl<'a> Model for Amount<'a> {
     ghost use Rattle.std.specs.Prelude.{ℤ, pos, ◌<ℤ◌};
-    ghost use Rattle.names.specs.declared.token.Token.{Token};
+    ghost use Rattle.contract.specs.Names.declared.token.Token.{Token};
 
     ghost Value = { Token × ℤ };
 

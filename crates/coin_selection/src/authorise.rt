@@ -10,11 +10,8 @@ use crate::amounts::Amount;
 use crate::missing::Missing;
 use crate::requirements::missing_after;
 use crate::role_tokens::{RoleToken, roles_of};
-use collections::{Bytes, Memory, Text};
-use contract::{Input, Party};
-use eutxo::has_signed;
-use ledger::Unspent;
-use roles::actor;
+use builder_spec::{Unspent, actor, has_signed};
+use contract::{Bytes, Input, Memory, Party, Text};
 use std::alloc::Global;
 
 // Whether a role's token is among those that are needed.

@@ -11,10 +11,8 @@ use crate::funds::least_lacking;
 use crate::limits::{has_repeat, put_owned, put_references};
 use crate::own_output::OwnOutput;
 use crate::signed::are_signed;
-use builder_spec::BuildFault;
-use collections::{Bytes, Text, TryClone};
-use contract::Input;
-use ledger::Unspent;
+use builder_spec::{BuildFault, Unspent};
+use contract::{Bytes, Input, Text, TryClone};
 use std::alloc::Global;
 
 /// Each offered output is under the key of a signer.

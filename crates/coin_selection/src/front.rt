@@ -7,8 +7,8 @@ ghost use Rattle.builder_spec.specs.FrontsSupport.{IsShortest};
 use crate::amounts::Amount;
 use crate::requirements::{meet_output, missing_of};
 use crate::role_tokens::RoleToken;
-use collections::Memory;
-use ledger::Unspent;
+use builder_spec::Unspent;
+use contract::Memory;
 use std::alloc::Global;
 
 // How many offered outputs the shortest front has that suffices: what they hold is counted until nothing is needed.

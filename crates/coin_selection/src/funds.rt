@@ -5,9 +5,8 @@ ghost use Rattle.builder_spec.specs.Holding.{amount_in, least_lacking, AreBundle
 use crate::amounts::Amount;
 use crate::requirements::missing_after;
 use crate::role_tokens::RoleToken;
-use collections::{Memory, TryClone};
-use ledger::Unspent;
-use names::Token;
+use builder_spec::Unspent;
+use contract::{Memory, Token, TryClone};
 use std::alloc::Global;
 
 /// The least of the wanted tokens of which outputs hold less.

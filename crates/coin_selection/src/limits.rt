@@ -2,8 +2,8 @@
 ghost use Rattle.std.specs.Prelude.{◌≡◌, ◌++◌, ◌∷◌, ◌<◌, false, not, length, get_or, map};
 ghost use Rattle.std.specs.Prelude.{IfOk, OnOk};
 ghost use Rattle.std.specs.HashSet.{contains};
-ghost use Rattle.eutxo_types.specs.Parts.{same_ref};
-ghost use Rattle.bundle.specs.Bundles.{plus};
+ghost use Rattle.builder_spec.specs.EutxoTypes.Parts.{same_ref};
+ghost use Rattle.builder_spec.specs.Bundle.Bundles.{plus};
 ghost use Rattle.builder_spec.specs.Holding.{sums, amount_in, AreBundles};
 ghost use Rattle.builder_spec.specs.Causes.{is_much, limit_cause, has_repeat};
 ghost use Rattle.coin_selection.specs.Answers.{AnswersCause, RefusesMuch};
@@ -11,12 +11,8 @@ ghost use Rattle.coin_selection.specs.LimitsSupport.{HasAlso};
 
 use crate::own_output::OwnOutput;
 use crate::sums::{see, see_room, sum, with};
-use builder_spec::BuildFault;
-use bundle::{Bundle, BundleFault};
-use collections::Memory;
-use contract::Input;
-use eutxo_types::{Output, OutputRef};
-use ledger::Unspent;
+use builder_spec::{BuildFault, Bundle, BundleFault, Output, OutputRef, Unspent};
+use contract::{Input, Memory};
 use std::alloc::Global;
 use std::collections::HashSet;
 

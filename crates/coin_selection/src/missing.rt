@@ -4,16 +4,15 @@ ghost use Rattle.std.specs.Prelude.{Some, None, false, option_copied, option_map
 ghost use Rattle.std.specs.BTreeMap as map;
 ghost use Rattle.std.specs.Option.{MatchOption, IfSome, unwrap_or};
 ghost use Rattle.std.specs.FinMap.{get};
-ghost use Rattle.names.specs.declared.token.Token.{Token as AToken};
-ghost use Rattle.names.specs.Orders.{token_cmp};
-ghost use Rattle.bundle.specs.Bundles.{amount_of};
-ghost use Rattle.collections.specs.Positive.{AllPositive};
+ghost use Rattle.contract.specs.Names.declared.token.Token.{Token as AToken};
+ghost use Rattle.contract.specs.Names.Orders.{token_cmp};
+ghost use Rattle.builder_spec.specs.Bundle.Bundles.{amount_of};
+ghost use Rattle.contract.specs.Collections.Positive.{AllPositive};
 ghost use Rattle.coin_selection.specs.MeetSupport.{left_after};
 ghost use Rattle.coin_selection.specs.MissingSupport.{left, InRange, IsLeast, ChangesOne, Adds, or_one, more_by};
 
-use bundle::{Bundle, WideSum};
-use collections::{Memory, TryClone};
-use names::Token;
+use builder_spec::{Bundle, WideSum};
+use contract::{Memory, Token, TryClone};
 use std::alloc::Global;
 use std::collections::BTreeMap;
 use std::marker::Model;
@@ -29,10 +28,10 @@ impl Model for Missing {
     ghost use Rattle.std.specs.FinMap.{code, get, from_entries};
     ghost use Rattle.std.specs.Option.{IfSome};
     ghost use Rattle.std.specs.Coded.{coded_ℤ};
-    ghost use Rattle.names.specs.declared.token.Token.{Token};
-    ghost use Rattle.names.specs.contracts.token.Token as token;
-    ghost use Rattle.names.specs.Orders.{token_cmp};
-    ghost use Rattle.bundle.specs.Bundles.{Amounts};
+    ghost use Rattle.contract.specs.Names.declared.token.Token.{Token};
+    ghost use Rattle.contract.specs.Names.contracts.token.Token as token;
+    ghost use Rattle.contract.specs.Names.Orders.{token_cmp};
+    ghost use Rattle.builder_spec.specs.Bundle.Bundles.{Amounts};
     ghost use Rattle.coin_selection.specs.MissingSupport.{InRange};
 
     ghost Value = { Amounts };

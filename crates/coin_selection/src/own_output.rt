@@ -1,5 +1,5 @@
 //! The output of a thread, lent.
-use eutxo_types::{Output, OutputRef};
+use builder_spec::{Output, OutputRef};
 use std::marker::Model;
 
 /// The unspent output of a thread, lent. Clauses see the output with its reference.
@@ -11,8 +11,8 @@ pub struct OwnOutput<'a> {
 
 impl<'a> Model for OwnOutput<'a> {
     ghost use Rattle.std.specs.Coded.{codes};
-    ghost use Rattle.eutxo_types.specs.contracts.output.Output as outputs;
-    ghost use Rattle.ledger.specs.declared.look.Unspent.{Unspent};
+    ghost use Rattle.builder_spec.specs.EutxoTypes.contracts.output.Output as outputs;
+    ghost use Rattle.builder_spec.specs.Ledger.declared.look.Unspent.{Unspent};
 
     ghost Value = { Unspent };
 

@@ -1,8 +1,8 @@
 //! What is needed of each token, and what outputs leave of it.
 ghost use Rattle.std.specs.Prelude.{◌≡◌, None, IfOk, OnOk};
 ghost use Rattle.std.specs.FinMap.{get};
-ghost use Rattle.names.specs.declared.token.Token.{Token as AToken};
-ghost use Rattle.bundle.specs.Bundles.{amount_of};
+ghost use Rattle.contract.specs.Names.declared.token.Token.{Token as AToken};
+ghost use Rattle.builder_spec.specs.Bundle.Bundles.{amount_of};
 ghost use Rattle.coin_selection.specs.MissingSupport.{left};
 ghost use Rattle.builder_spec.specs.Holding.{amount_in, wanted, AreBundles};
 ghost use Rattle.coin_selection.specs.RequiredSupport.{required_amount, lacking_amount};
@@ -11,8 +11,8 @@ ghost use Rattle.coin_selection.specs.RequiredSupport.{IsMissing, AddsRoles, Tak
 use crate::amounts::Amount;
 use crate::missing::Missing;
 use crate::role_tokens::RoleToken;
-use collections::Memory;
-use ledger::Unspent;
+use builder_spec::Unspent;
+use contract::Memory;
 use std::alloc::Global;
 
 // As much of each token is needed as these amounts come to.

@@ -1,14 +1,12 @@
 //! Tokens of roles.
 ghost use Rattle.std.specs.Prelude.{◌≡◌, [], ◌∷◌, ◌++◌, IfOk, OnOk, OnErr};
 ghost use Rattle.std.specs.Option.{option_to_list};
-ghost use Rattle.roles.specs.Steps.{role_token};
+ghost use Rattle.builder_spec.specs.Roles.Steps.{role_token};
 ghost use Rattle.builder_spec.specs.Steps.{token_of, roles_of};
-ghost use Rattle.contract_bytes.specs.Writing.{AppendsFront};
+ghost use Rattle.builder_spec.specs.ContractBytes.Writing.{AppendsFront};
 
-use collections::{Bytes, Memory, Text, TryClone};
-use contract::{Input, Party};
-use names::Token;
-use roles::actor;
+use builder_spec::actor;
+use contract::{Bytes, Input, Memory, Party, Text, Token, TryClone};
 use std::alloc::Global;
 use std::marker::Model;
 
@@ -20,7 +18,7 @@ pub struct RoleToken<'a> {
 }
 
 impl<'a> Model for RoleToken<'a> {
-    ghost use Rattle.names.specs.declared.token.Token.{Token};
+    ghost use Rattle.contract.specs.Names.declared.token.Token.{Token};
 
     ghost Value = { Token };
 

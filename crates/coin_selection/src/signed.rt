@@ -3,10 +3,8 @@ ghost use Rattle.std.specs.Prelude.{◌≡◌};
 ghost use Rattle.std.specs.List.{list_all};
 ghost use Rattle.builder_spec.specs.Causes.{is_signed};
 
-use collections::Text;
-use eutxo::has_signed;
-use eutxo_types::Lock;
-use ledger::Unspent;
+use builder_spec::{Lock, Unspent, has_signed};
+use contract::Text;
 
 fn is_signed(signers: &[Text], lock: &Lock) -> bool
     ensures { result ≡ is_signed signers.now lock.now }

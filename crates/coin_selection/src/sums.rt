@@ -2,14 +2,13 @@
 ghost use Rattle.std.specs.Prelude.{◌≡◌, false, IfOk, IfErr, pos, int_lt, ◌-◌, ◌^◌};
 ghost use Rattle.std.specs.List.{list_any};
 ghost use Rattle.std.specs.FinMap.{entries};
-ghost use Rattle.bundle.specs.Bundles.{AllPositive, plus};
+ghost use Rattle.builder_spec.specs.Bundle.Bundles.{AllPositive, plus};
 ghost use Rattle.builder_spec.specs.Holding.{sums, AreBundles};
 ghost use Rattle.builder_spec.specs.Causes.{is_much};
 ghost use Rattle.coin_selection.specs.Answers.{RefusesMuch};
 
-use bundle::{Bundle, BundleFault, Holds};
-use collections::TryClone;
-use names::Token;
+use builder_spec::{Bundle, BundleFault, Holds};
+use contract::{Token, TryClone};
 use std::alloc::Global;
 
 /// What it holds is above 0. It does nothing.

@@ -3,7 +3,7 @@ use Rattle.std.proofs.Common.{◌≡◌, sym, subst, ◌≤◌, true, false, Boo
 use Rattle.std.specs.Prelude.{nat_le, ◌&&◌, Option, Some, None, if◌then◌else◌}
 use Rattle.std.proofs.lemmas.Bool.{leb-true}
 use Rattle.contract.specs.Tree.{ContractTree}
-use Rattle.nodes.specs.declared.cont.Cont.{Cont}
+use Rattle.table.specs.Nodes.declared.cont.Cont.{Cont}
 use Rattle.table.specs.Heights.{contract_height}
 use Rattle.table.specs.Flat.{Flat, Has, a_cont, cont_tree}
 use Rattle.lowering.specs.Code.{code}

@@ -7,4 +7,7 @@ mod limits;
 
 pub use compiling::compile;
 pub use fault::CompileFault;
+pub use lowering;
 pub use lowering::codes_stand;
+pub use table;
+pub use table::evaluation;

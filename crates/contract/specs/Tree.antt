@@ -2,11 +2,11 @@
 -- observations", "Actions and inputs", "Contracts"). Each form has the name of the specification. A contract
 -- and its tree determine each other (the law `contracts_are_trees`).
 use Rattle.std.specs.Prelude.{ℕ, ℤ, List, [], ◌∷◌}
-use Rattle.names.specs.declared.party.Party.{Party}
-use Rattle.names.specs.declared.payee.Payee.{Payee}
-use Rattle.names.specs.declared.token.Token.{Token}
-use Rattle.names.specs.declared.choice_id.ChoiceId.{ChoiceId}
-use Rattle.names.specs.declared.bound.Bound.{Bound}
+use Rattle.states.specs.Names.declared.party.Party.{Party}
+use Rattle.states.specs.Names.declared.payee.Payee.{Payee}
+use Rattle.states.specs.Names.declared.token.Token.{Token}
+use Rattle.states.specs.Names.declared.choice_id.ChoiceId.{ChoiceId}
+use Rattle.states.specs.Names.declared.bound.Bound.{Bound}
 use Rattle.contract.specs.declared.value.Value.{Value}
 use Rattle.contract.specs.declared.value.Observation.{Observation}
 use Rattle.contract.specs.declared.value.Observation.TheOpen.{Value-F, Observation-F}

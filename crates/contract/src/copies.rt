@@ -4,8 +4,8 @@ ghost use Rattle.std.specs.Prelude.{◌≡◌, IfOk};
 use crate::together::{both, three_copies, two_copies};
 use crate::tree::{Action, Case, Contract};
 use crate::value::{Observation, Value};
-use collections::{Boxed, Items, Memory, Text, TryClone};
-use names::{Party, Payee, Token};
+use states::collections::{Boxed, Items, Memory, Text, TryClone};
+use states::names::{Party, Payee, Token};
 use std::alloc::Global;
 
 impl TryClone for Value {

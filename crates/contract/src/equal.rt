@@ -6,7 +6,7 @@ use crate::payment::Payment;
 use crate::tree::{Action, Case, Contract};
 use crate::value::{Observation, Value};
 use crate::warning::Warning;
-use collections::{Boxed, Items, Same};
+use states::collections::{Boxed, Items, Same};
 
 impl Same for Value {
     fn same(&self, other: &Value) -> bool {
@@ -315,8 +315,8 @@ fn same_contract(a: &Contract, b: &Contract) -> bool
 }
 
 impl PartialEq for Input {
-    ghost use Rattle.collections.specs.Same.{same_by};
-    ghost use Rattle.collections.proofs.SameLaws.{same_by-partial};
+    ghost use Rattle.states.specs.Collections.Same.{same_by};
+    ghost use Rattle.states.proofs.FromCollections.SameLaws.{same_by-partial};
     ghost use Rattle.contract.specs.contracts.input.Input as it;
 
     ghost eq = { same_by it.the_row.coded };
@@ -329,15 +329,15 @@ impl PartialEq for Input {
 }
 
 impl Eq for Input {
-    ghost use Rattle.collections.proofs.SameLaws.{same_by-equiv};
+    ghost use Rattle.states.proofs.FromCollections.SameLaws.{same_by-equiv};
     ghost use Rattle.contract.specs.contracts.input.Input as it;
 
     ghost laws = { same_by-equiv it.the_row.coded };
 }
 
 impl PartialEq for Warning {
-    ghost use Rattle.collections.specs.Same.{same_by};
-    ghost use Rattle.collections.proofs.SameLaws.{same_by-partial};
+    ghost use Rattle.states.specs.Collections.Same.{same_by};
+    ghost use Rattle.states.proofs.FromCollections.SameLaws.{same_by-partial};
     ghost use Rattle.contract.specs.contracts.warning.Warning as it;
 
     ghost eq = { same_by it.the_row.coded };
@@ -350,15 +350,15 @@ impl PartialEq for Warning {
 }
 
 impl Eq for Warning {
-    ghost use Rattle.collections.proofs.SameLaws.{same_by-equiv};
+    ghost use Rattle.states.proofs.FromCollections.SameLaws.{same_by-equiv};
     ghost use Rattle.contract.specs.contracts.warning.Warning as it;
 
     ghost laws = { same_by-equiv it.the_row.coded };
 }
 
 impl PartialEq for Payment {
-    ghost use Rattle.collections.specs.Same.{same_by};
-    ghost use Rattle.collections.proofs.SameLaws.{same_by-partial};
+    ghost use Rattle.states.specs.Collections.Same.{same_by};
+    ghost use Rattle.states.proofs.FromCollections.SameLaws.{same_by-partial};
     ghost use Rattle.contract.specs.contracts.payment.Payment as it;
 
     ghost eq = { same_by it.the_row.coded };
@@ -371,15 +371,15 @@ impl PartialEq for Payment {
 }
 
 impl Eq for Payment {
-    ghost use Rattle.collections.proofs.SameLaws.{same_by-equiv};
+    ghost use Rattle.states.proofs.FromCollections.SameLaws.{same_by-equiv};
     ghost use Rattle.contract.specs.contracts.payment.Payment as it;
 
     ghost laws = { same_by-equiv it.the_row.coded };
 }
 
 impl PartialEq for Value {
-    ghost use Rattle.collections.specs.Same.{same_by};
-    ghost use Rattle.collections.proofs.SameLaws.{same_by-partial};
+    ghost use Rattle.states.specs.Collections.Same.{same_by};
+    ghost use Rattle.states.proofs.FromCollections.SameLaws.{same_by-partial};
     ghost use Rattle.contract.specs.contracts.value.Value as it;
 
     ghost eq = { same_by it.the_row.coded };
@@ -392,15 +392,15 @@ impl PartialEq for Value {
 }
 
 impl Eq for Value {
-    ghost use Rattle.collections.proofs.SameLaws.{same_by-equiv};
+    ghost use Rattle.states.proofs.FromCollections.SameLaws.{same_by-equiv};
     ghost use Rattle.contract.specs.contracts.value.Value as it;
 
     ghost laws = { same_by-equiv it.the_row.coded };
 }
 
 impl PartialEq for Observation {
-    ghost use Rattle.collections.specs.Same.{same_by};
-    ghost use Rattle.collections.proofs.SameLaws.{same_by-partial};
+    ghost use Rattle.states.specs.Collections.Same.{same_by};
+    ghost use Rattle.states.proofs.FromCollections.SameLaws.{same_by-partial};
     ghost use Rattle.contract.specs.contracts.value.Observation as it;
 
     ghost eq = { same_by it.the_row.coded };
@@ -413,15 +413,15 @@ impl PartialEq for Observation {
 }
 
 impl Eq for Observation {
-    ghost use Rattle.collections.proofs.SameLaws.{same_by-equiv};
+    ghost use Rattle.states.proofs.FromCollections.SameLaws.{same_by-equiv};
     ghost use Rattle.contract.specs.contracts.value.Observation as it;
 
     ghost laws = { same_by-equiv it.the_row.coded };
 }
 
 impl PartialEq for Action {
-    ghost use Rattle.collections.specs.Same.{same_by};
-    ghost use Rattle.collections.proofs.SameLaws.{same_by-partial};
+    ghost use Rattle.states.specs.Collections.Same.{same_by};
+    ghost use Rattle.states.proofs.FromCollections.SameLaws.{same_by-partial};
     ghost use Rattle.contract.specs.contracts.tree.Action as it;
 
     ghost eq = { same_by it.the_row.coded };
@@ -434,15 +434,15 @@ impl PartialEq for Action {
 }
 
 impl Eq for Action {
-    ghost use Rattle.collections.proofs.SameLaws.{same_by-equiv};
+    ghost use Rattle.states.proofs.FromCollections.SameLaws.{same_by-equiv};
     ghost use Rattle.contract.specs.contracts.tree.Action as it;
 
     ghost laws = { same_by-equiv it.the_row.coded };
 }
 
 impl PartialEq for Case {
-    ghost use Rattle.collections.specs.Same.{same_by};
-    ghost use Rattle.collections.proofs.SameLaws.{same_by-partial};
+    ghost use Rattle.states.specs.Collections.Same.{same_by};
+    ghost use Rattle.states.proofs.FromCollections.SameLaws.{same_by-partial};
     ghost use Rattle.contract.specs.contracts.tree.Case as it;
 
     ghost eq = { same_by it.the_row.coded };
@@ -455,15 +455,15 @@ impl PartialEq for Case {
 }
 
 impl Eq for Case {
-    ghost use Rattle.collections.proofs.SameLaws.{same_by-equiv};
+    ghost use Rattle.states.proofs.FromCollections.SameLaws.{same_by-equiv};
     ghost use Rattle.contract.specs.contracts.tree.Case as it;
 
     ghost laws = { same_by-equiv it.the_row.coded };
 }
 
 impl PartialEq for Contract {
-    ghost use Rattle.collections.specs.Same.{same_by};
-    ghost use Rattle.collections.proofs.SameLaws.{same_by-partial};
+    ghost use Rattle.states.specs.Collections.Same.{same_by};
+    ghost use Rattle.states.proofs.FromCollections.SameLaws.{same_by-partial};
     ghost use Rattle.contract.specs.contracts.tree.Contract as it;
 
     ghost eq = { same_by it.the_row.coded };
@@ -476,7 +476,7 @@ impl PartialEq for Contract {
 }
 
 impl Eq for Contract {
-    ghost use Rattle.collections.proofs.SameLaws.{same_by-equiv};
+    ghost use Rattle.states.proofs.FromCollections.SameLaws.{same_by-equiv};
     ghost use Rattle.contract.specs.contracts.tree.Contract as it;
 
     ghost laws = { same_by-equiv it.the_row.coded };

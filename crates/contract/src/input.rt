@@ -1,7 +1,7 @@
 //! Inputs.
 use crate::together::three_copies;
-use collections::{Memory, TryClone};
-use names::{ChoiceId, Party, Token};
+use states::collections::{Memory, TryClone};
+use states::names::{ChoiceId, Party, Token};
 
 /// What a transaction brings to a contract that waits (Marlowe specification version 3, "Actions and
 /// inputs").
@@ -32,7 +32,7 @@ impl TryClone for Input {
 #[derived]
 impl Hash for Input {
     ghost use Rattle.std.specs.Hash.{same_Alike};
-    ghost use Rattle.collections.proofs.SameLaws.{same_by_decides};
+    ghost use Rattle.states.proofs.FromCollections.SameLaws.{same_by_decides};
     ghost use Rattle.contract.specs.contracts.input.Input as it;
 
     ghost respects_eq = { (same_Alike _ (same_by_decides it.the_row.coded)).fed };

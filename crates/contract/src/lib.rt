@@ -16,15 +16,18 @@ mod tree;
 mod value;
 mod warning;
 
-pub use collections::{Boxed, Bytes, Entries, Items, Memory, Same, Text, TryClone};
 pub use fault::SemFault;
 pub use input::Input;
 pub use interval::Interval;
 pub use laws::contracts_are_trees;
-pub use names::{Account, Bound, ChoiceId, Party, Payee, Token};
 pub use outcome::Outcome;
 pub use payment::Payment;
-pub use states::{State, StateFault, first_account_is_least, sets_are_found, totals_follow_sets};
+pub use states::collections::{Boxed, Bytes, Entries, Items, Memory, Same, Text, TryClone};
+pub use states::names::{Account, Bound, ChoiceId, Party, Payee, Token};
+pub use states::{
+    State, StateFault, collections, first_account_is_least, names, sets_are_found,
+    totals_follow_sets,
+};
 pub use transaction::Transaction;
 pub use tree::{Action, Case, Contract};
 pub use value::{Observation, Value};

@@ -2,8 +2,8 @@
 use crate::payment::Payment;
 use crate::together::{both, two_copies};
 use crate::warning::Warning;
-use collections::{Items, Memory, Same, TryClone};
 use states::State;
+use states::collections::{Items, Memory, Same, TryClone};
 
 /// What a transaction that succeeds leaves: warnings and payments in order, the new state, and the
 /// place where the contract goes on.

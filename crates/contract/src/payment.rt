@@ -1,7 +1,7 @@
 //! Payments.
 use crate::together::three_copies;
-use collections::{Memory, TryClone};
-use names::{Party, Payee, Token};
+use states::collections::{Memory, TryClone};
+use states::names::{Party, Payee, Token};
 
 /// A payment that a transaction makes (Marlowe specification version 3, "Compute transaction"): from
 /// the account of `from` to the payee `to`, of an amount of a token, in its smallest unit.
@@ -28,7 +28,7 @@ impl TryClone for Payment {
 #[derived]
 impl Hash for Payment {
     ghost use Rattle.std.specs.Hash.{same_Alike};
-    ghost use Rattle.collections.proofs.SameLaws.{same_by_decides};
+    ghost use Rattle.states.proofs.FromCollections.SameLaws.{same_by_decides};
     ghost use Rattle.contract.specs.contracts.payment.Payment as it;
 
     ghost respects_eq = { (same_Alike _ (same_by_decides it.the_row.coded)).fed };

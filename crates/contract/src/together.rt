@@ -2,7 +2,7 @@
 //! place for all types.
 ghost use Rattle.std.specs.Prelude.{◌≡◌, IfOk, Ok};
 
-use collections::{Memory, TryClone};
+use states::collections::{Memory, TryClone};
 
 // The first value and the second, or the second's refusal.
 pub(crate) fn both<A: Drop, B>(a: A, b: Result<B, Memory>) -> Result<(A, B), Memory>

@@ -1,7 +1,7 @@
 //! Transactions.
 use crate::input::Input;
 use crate::interval::Interval;
-use collections::{Items, Memory, TryClone};
+use states::collections::{Items, Memory, TryClone};
 
 /// What is applied to a contract at once (Marlowe specification version 3, "Compute transaction"): the
 /// interval in which it happens, and its inputs in order.

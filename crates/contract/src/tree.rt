@@ -1,7 +1,7 @@
 //! Contracts (Marlowe specification version 3, "Contracts").
 use crate::value::{Observation, Value};
-use collections::{Boxed, Items, Text};
-use names::{Bound, ChoiceId, Party, Payee, Token};
+use states::collections::{Boxed, Items, Text};
+use states::names::{Bound, ChoiceId, Party, Payee, Token};
 
 /// What a case of a When waits for (Marlowe specification version 3, "Actions and inputs").
 #[derive(Drop, Hash)]
@@ -45,7 +45,7 @@ pub enum Contract {
 #[derived]
 impl Hash for Action {
     ghost use Rattle.std.specs.Hash.{same_Alike};
-    ghost use Rattle.collections.proofs.SameLaws.{same_by_decides};
+    ghost use Rattle.states.proofs.FromCollections.SameLaws.{same_by_decides};
     ghost use Rattle.contract.specs.contracts.tree.Action as it;
 
     ghost respects_eq = { (same_Alike _ (same_by_decides it.the_row.coded)).fed };
@@ -54,7 +54,7 @@ impl Hash for Action {
 #[derived]
 impl Hash for Case {
     ghost use Rattle.std.specs.Hash.{same_Alike};
-    ghost use Rattle.collections.proofs.SameLaws.{same_by_decides};
+    ghost use Rattle.states.proofs.FromCollections.SameLaws.{same_by_decides};
     ghost use Rattle.contract.specs.contracts.tree.Case as it;
 
     ghost respects_eq = { (same_Alike _ (same_by_decides it.the_row.coded)).fed };
@@ -63,7 +63,7 @@ impl Hash for Case {
 #[derived]
 impl Hash for Contract {
     ghost use Rattle.std.specs.Hash.{same_Alike};
-    ghost use Rattle.collections.proofs.SameLaws.{same_by_decides};
+    ghost use Rattle.states.proofs.FromCollections.SameLaws.{same_by_decides};
     ghost use Rattle.contract.specs.contracts.tree.Contract as it;
 
     ghost respects_eq = { (same_Alike _ (same_by_decides it.the_row.coded)).fed };

@@ -1,6 +1,6 @@
 //! Values and observations (Marlowe specification version 3, "Values and observations").
-use collections::{Boxed, Text};
-use names::{ChoiceId, Party, Token};
+use states::collections::{Boxed, Text};
+use states::names::{ChoiceId, Party, Token};
 
 /// A number that depends on the state and the interval of a transaction (Marlowe specification version
 /// 3, "Values and observations").
@@ -65,7 +65,7 @@ pub enum Observation {
 #[derived]
 impl Hash for Value {
     ghost use Rattle.std.specs.Hash.{same_Alike};
-    ghost use Rattle.collections.proofs.SameLaws.{same_by_decides};
+    ghost use Rattle.states.proofs.FromCollections.SameLaws.{same_by_decides};
     ghost use Rattle.contract.specs.contracts.value.Value as it;
 
     ghost respects_eq = { (same_Alike _ (same_by_decides it.the_row.coded)).fed };
@@ -74,7 +74,7 @@ impl Hash for Value {
 #[derived]
 impl Hash for Observation {
     ghost use Rattle.std.specs.Hash.{same_Alike};
-    ghost use Rattle.collections.proofs.SameLaws.{same_by_decides};
+    ghost use Rattle.states.proofs.FromCollections.SameLaws.{same_by_decides};
     ghost use Rattle.contract.specs.contracts.value.Observation as it;
 
     ghost respects_eq = { (same_Alike _ (same_by_decides it.the_row.coded)).fed };

@@ -1,7 +1,7 @@
 //! Warnings.
 use crate::together::three_copies;
-use collections::{Memory, Text, TryClone};
-use names::{Party, Payee, Token};
+use states::collections::{Memory, Text, TryClone};
+use states::names::{Party, Payee, Token};
 
 /// What is unusual about a transaction that succeeds (Marlowe specification version 3, "Compute
 /// transaction"). Amounts are in a token's smallest unit.
@@ -45,7 +45,7 @@ impl TryClone for Warning {
 #[derived]
 impl Hash for Warning {
     ghost use Rattle.std.specs.Hash.{same_Alike};
-    ghost use Rattle.collections.proofs.SameLaws.{same_by_decides};
+    ghost use Rattle.states.proofs.FromCollections.SameLaws.{same_by_decides};
     ghost use Rattle.contract.specs.contracts.warning.Warning as it;
 
     ghost respects_eq = { (same_Alike _ (same_by_decides it.the_row.coded)).fed };

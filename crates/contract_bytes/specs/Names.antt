@@ -1,13 +1,13 @@
 -- How parties, tokens, choice ids, payees and bounds are spelled in bytes, and which of them fit (Marlowe specification
 -- version 3, "Participants, roles and public keys", "Multi-asset token", "Choices" and "Accounts", has what they are).
 use Rattle.std.specs.Prelude.{ℕ, ℤ, List, ◌∷◌, ◌++◌}
-use Rattle.names.specs.declared.party.Party.{Party}
-use Rattle.names.specs.declared.party.Party.TheVariants as parties
-use Rattle.names.specs.declared.token.Token.{Token}
-use Rattle.names.specs.declared.choice_id.ChoiceId.{ChoiceId}
-use Rattle.names.specs.declared.payee.Payee.{Payee}
-use Rattle.names.specs.declared.payee.Payee.TheVariants as payees
-use Rattle.names.specs.declared.bound.Bound.{Bound}
+use Rattle.contract.specs.Names.declared.party.Party.{Party}
+use Rattle.contract.specs.Names.declared.party.Party.TheVariants as parties
+use Rattle.contract.specs.Names.declared.token.Token.{Token}
+use Rattle.contract.specs.Names.declared.choice_id.ChoiceId.{ChoiceId}
+use Rattle.contract.specs.Names.declared.payee.Payee.{Payee}
+use Rattle.contract.specs.Names.declared.payee.Payee.TheVariants as payees
+use Rattle.contract.specs.Names.declared.bound.Bound.{Bound}
 use Rattle.contract_bytes.specs.Numbers.{number_bytes, text_bytes, NumberFits, TextFits}
 
 abbrev pub party_bytes : Party → List ℕ

@@ -2,9 +2,9 @@
 -- the numbers chosen and the values bound, each list in the order of its keys, then the minimum time.
 use Rattle.std.specs.Prelude.{ℕ, ℤ, List, ◌++◌}
 use Rattle.std.specs.FinMap.{entries}
-use Rattle.names.specs.declared.account.Account.{Account}
-use Rattle.names.specs.declared.choice_id.ChoiceId.{ChoiceId}
-use Rattle.states.specs.States.{StateMaps}
+use Rattle.contract.specs.Names.declared.account.Account.{Account}
+use Rattle.contract.specs.Names.declared.choice_id.ChoiceId.{ChoiceId}
+use Rattle.contract.specs.States.States.{StateMaps}
 use Rattle.contract_bytes.specs.Numbers.{number_bytes, time_bytes, text_bytes, list_bytes, NumberFits, TimeFits, TextFits, ListFits}
 use Rattle.contract_bytes.specs.Names.{party_bytes, token_bytes, choice_id_bytes, PartyFits, TokenFits, ChoiceIdFits}
 

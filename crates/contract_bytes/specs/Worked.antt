@@ -1,10 +1,10 @@
 -- Worked spellings.
 use Rattle.std.specs.Prelude.{◌≡◌, pos, negsuc, ◌-◌, ◌^◌, [], ◌∷◌, replicate}
 use Rattle.std.specs.FinMap.{entries}
-use Rattle.names.specs.declared.party.Party.TheVariants as parties
-use Rattle.names.specs.Equal.{ada}
+use Rattle.contract.specs.Names.declared.party.Party.TheVariants as parties
+use Rattle.contract.specs.Names.Equal.{ada}
 use Rattle.contract.specs.declared.input.Input.TheVariants as inputs
-use Rattle.states.specs.States.{StateMaps}
+use Rattle.contract.specs.States.States.{StateMaps}
 use Rattle.contract.specs.Tree.{close, when, no_cases}
 use Rattle.contract_bytes.specs.Numbers.{number_bytes, time_bytes}
 use Rattle.contract_bytes.specs.Names.{party_bytes, token_bytes}

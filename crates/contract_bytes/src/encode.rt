@@ -11,8 +11,7 @@ use crate::input::put_input;
 use crate::names_of::{put_party, put_token};
 use crate::state::put_state;
 use crate::tree::put_contract;
-use collections::Memory;
-use contract::{Contract, Input, Party, State, Token};
+use contract::{Contract, Input, Memory, Party, State, Token};
 use std::alloc::Global;
 
 /// The spelling of a contract (Marlowe specification version 3, "Contracts", has the forms).

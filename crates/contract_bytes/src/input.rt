@@ -6,9 +6,7 @@ ghost use Rattle.contract_bytes.specs.WritingSupport.{SpellsInput};
 
 use crate::names_of::{put_choice_id, put_party, put_token};
 use crate::number::{put_byte, put_number};
-use collections::Memory;
-use contract::Input;
-use names::{ChoiceId, Party, Token};
+use contract::{ChoiceId, Input, Memory, Party, Token};
 
 fn put_deposit(
     out: &mut Vec<u8>,

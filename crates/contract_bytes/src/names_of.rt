@@ -4,8 +4,7 @@ ghost use Rattle.contract_bytes.specs.Names.{party_bytes, token_bytes, choice_id
 ghost use Rattle.contract_bytes.specs.Writing.{AppendsFront};
 
 use crate::number::{put_byte, put_bytes, put_number, put_text};
-use collections::Memory;
-use names::{Bound, ChoiceId, Party, Payee, Token};
+use contract::{Bound, ChoiceId, Memory, Party, Payee, Token};
 
 /// Appends a party: a tag, then its text.
 pub fn put_party(out: &mut Vec<u8>, party: &Party) -> Result<(), Memory>

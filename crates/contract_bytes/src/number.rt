@@ -3,7 +3,7 @@ ghost use Rattle.std.specs.Prelude.{◌≡◌, [], ◌∷◌, ◌++◌, OnOk, On
 ghost use Rattle.contract_bytes.specs.Numbers.{length_bytes, number_bytes, time_bytes, text_bytes, NumberFits, TimeFits, TextFits};
 ghost use Rattle.contract_bytes.specs.Writing.{AppendsFront};
 
-use collections::{Bytes, Memory, Text};
+use contract::{Bytes, Memory, Text};
 
 /// Appends a byte.
 pub fn put_byte(out: &mut Vec<u8>, byte: u8) -> Result<(), Memory>

@@ -11,9 +11,7 @@ use crate::input::put_input;
 use crate::names_of::{put_bound, put_choice_id, put_party, put_token};
 use crate::number::{put_bytes, put_length, put_number, put_text};
 use crate::state::put_state;
-use collections::{Bytes, Memory, Text};
-use contract::{Input, State};
-use names::{Account, Bound, ChoiceId, Token};
+use contract::{Account, Bound, Bytes, ChoiceId, Input, Memory, State, Text, Token};
 
 /// What is spelled in bytes, alone or as an item of a list.
 pub trait Spell {

@@ -5,8 +5,7 @@ ghost use Rattle.contract_bytes.specs.Writing.{AppendsFront};
 
 use crate::number::put_time;
 use crate::spell::put_list;
-use collections::Memory;
-use contract::State;
+use contract::{Memory, State};
 
 /// Appends a state: its accounts, its choices and its bound values, each in order, then its minimum time.
 #[tactic(auto, using(std::proofs::Common::append_assoc))]

@@ -7,9 +7,10 @@ use crate::names_of::{put_choice_id, put_party, put_payee, put_token};
 use crate::number::{put_byte, put_length, put_text, put_time};
 use crate::spell::put_list;
 use crate::value::{put_observation, put_value};
-use collections::{Boxed, Items, Memory, Text};
-use contract::{Action, Case, Contract, Observation, Value};
-use names::{Bound, ChoiceId, Party, Payee, Token};
+use contract::{
+    Action, Bound, Boxed, Case, ChoiceId, Contract, Items, Memory, Observation, Party, Payee, Text,
+    Token, Value,
+};
 
 // A tag, and an observation.
 fn put_test(out: &mut Vec<u8>, tag: u8, observation: &Observation) -> Result<(), Memory>

@@ -8,9 +8,7 @@ ghost use Rattle.contract_bytes.specs.WritingSupport.{Spells, SpellsValue, Spell
 
 use crate::names_of::{put_choice_id, put_party, put_token};
 use crate::number::{put_byte, put_number, put_text};
-use collections::{Boxed, Memory, Text};
-use contract::{Observation, Value};
-use names::{ChoiceId, Party, Token};
+use contract::{Boxed, ChoiceId, Memory, Observation, Party, Text, Token, Value};
 
 // ---- the forms without operands
 

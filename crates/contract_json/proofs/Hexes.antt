@@ -3,9 +3,9 @@ use Rattle.std.proofs.Common.{◌≡◌, Ok, ap, ◌∙◌}
 use Rattle.serde_json.specs.Data.{Data}
 use Rattle.hex.proofs.HexLemmas.{decode_of-encode_lower}
 use Rattle.hex.specs.Hex.{IsBytes}
-use Rattle.names.specs.declared.token.Token.{Token}
+use Rattle.contract.specs.Names.declared.token.Token.{Token}
 use Rattle.json_write_contracts.specs.WrittenNames.{token_json}
-use Rattle.collections.specs.Answers.{◌>>=◌}
+use Rattle.contract.specs.Collections.Answers.{◌>>=◌}
 use Rattle.json_read_names.specs.Parts.{decoded}
 use Rattle.json_read_names.specs.ReadsNames.{token}
 

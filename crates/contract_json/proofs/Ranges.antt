@@ -14,7 +14,7 @@ use Rattle.serde_json.specs.Find.{get, get_member}
 use Rattle.json_tree.specs.View.{read_within}
 use Rattle.contract_json.specs.PartAt.{part_at}
 use Rattle.serde_json.specs.Read.{read, max_depth, is_integer, float_of, number_from, number_of, of_json, of_items, of_members}
-use Rattle.collections.specs.Answers.{◌>>=◌}
+use Rattle.contract.specs.Collections.Answers.{◌>>=◌}
 use Rattle.json_read_names.specs.Parts.{Reading, needed, whole_number, time, member_at, reading_at}
 use Rattle.json_read_names.specs.declared.fault.JsonFault.TheVariants.{OutOfRange}
 use Rattle.json_write_contracts.specs.WrittenNames.{number_fits, time_fits}

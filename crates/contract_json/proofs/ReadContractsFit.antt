@@ -7,14 +7,14 @@ use Rattle.std.specs.Ordering.{nat_cmp}
 use Rattle.std.specs.Cmp.Lexicographic.{slice_cmp}
 use Rattle.serde_json.specs.Data.{Data, null, boolean, number, string, array, object, Items, no_items, item, Members, no_members, member}
 use Rattle.serde_json.specs.Read.{read}
-use Rattle.names.specs.declared.bound.Bound.{Bound}
+use Rattle.contract.specs.Names.declared.bound.Bound.{Bound}
 use Rattle.contract.specs.declared.tree.Action.{Action}
 use Rattle.contract.specs.declared.tree.Case.{Case}
 use Rattle.contract.specs.declared.tree.Contract.{Contract}
 use Rattle.contract.specs.Tree.{action_tree, case_trees, case_tree, contract_tree}
 use Rattle.contract.proofs.TreeLaws as laws
 use Rattle.json_read_names.specs.Forms.{has_two, contract_form, case_form, action_form}
-use Rattle.collections.specs.Answers.{◌>>=◌}
+use Rattle.contract.specs.Collections.Answers.{◌>>=◌}
 use Rattle.json_read_names.specs.Parts.{ByKey, reading_at, both_readings, nowhere, text, whole_number, time, all_items, list}
 use Rattle.json_read_names.specs.ReadsNames.{party, payee, token, choice_id, bound}
 use Rattle.json_tree.specs.View.{read_within}

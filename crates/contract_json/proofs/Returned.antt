@@ -9,8 +9,8 @@ use Rattle.contract.specs.declared.value.Observation.{Observation}
 use Rattle.contract.specs.declared.tree.Action.{Action}
 use Rattle.contract.specs.declared.tree.Case.{Case}
 use Rattle.contract.specs.declared.tree.Contract.{Contract}
-use Rattle.states.specs.States.{StateMaps}
-use Rattle.collections.specs.Answers.{◌>>=◌}
+use Rattle.contract.specs.States.States.{StateMaps}
+use Rattle.contract.specs.Collections.Answers.{◌>>=◌}
 use Rattle.contract.specs.Tree.{value_tree, observation_tree, action_tree, case_tree, contract_tree}
 use Rattle.contract.specs.TreeInverse.{action_of, contract_of}
 use Rattle.contract.proofs.TreeLaws.{value_of-value_tree, observation_of-observation_tree, action_of-action_tree, case_tree-parts, contract_of-contract_tree}

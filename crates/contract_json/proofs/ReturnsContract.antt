@@ -4,11 +4,11 @@ use Rattle.std.proofs.lemmas.Bool.{and_parts}
 use Rattle.std.specs.Prelude.{codes}
 use Rattle.serde_json.specs.Data.{Data, Items, no_items, item, string, array}
 use Rattle.serde_json.specs.View.{items_of}
-use Rattle.names.specs.declared.party.Party.{Party}
-use Rattle.names.specs.declared.payee.Payee.{Payee}
-use Rattle.names.specs.declared.token.Token.{Token}
-use Rattle.names.specs.declared.choice_id.ChoiceId.{ChoiceId}
-use Rattle.names.specs.declared.bound.Bound.{Bound}
+use Rattle.contract.specs.Names.declared.party.Party.{Party}
+use Rattle.contract.specs.Names.declared.payee.Payee.{Payee}
+use Rattle.contract.specs.Names.declared.token.Token.{Token}
+use Rattle.contract.specs.Names.declared.choice_id.ChoiceId.{ChoiceId}
+use Rattle.contract.specs.Names.declared.bound.Bound.{Bound}
 use Rattle.contract.specs.declared.value.Value.{Value}
 use Rattle.contract.specs.declared.value.Observation.{Observation}
 use Rattle.contract.specs.declared.tree.Action.{Action}

@@ -2,12 +2,12 @@
 use Rattle.std.proofs.Common.{◌≡◌, ℤ, pos, negsuc, true, List, [], ◌∷◌, map, Ok, refl}
 use Rattle.serde_json.specs.Data.{Data, array}
 use Rattle.serde_json.specs.View.{items_of}
-use Rattle.names.specs.declared.party.Party.{Party}
-use Rattle.names.specs.declared.party.Party.TheVariants as parties
-use Rattle.names.specs.declared.payee.Payee.{Payee}
-use Rattle.names.specs.declared.payee.Payee.TheVariants as payees
-use Rattle.names.specs.declared.choice_id.ChoiceId.{ChoiceId}
-use Rattle.names.specs.declared.bound.Bound.{Bound}
+use Rattle.contract.specs.Names.declared.party.Party.{Party}
+use Rattle.contract.specs.Names.declared.party.Party.TheVariants as parties
+use Rattle.contract.specs.Names.declared.payee.Payee.{Payee}
+use Rattle.contract.specs.Names.declared.payee.Payee.TheVariants as payees
+use Rattle.contract.specs.Names.declared.choice_id.ChoiceId.{ChoiceId}
+use Rattle.contract.specs.Names.declared.bound.Bound.{Bound}
 use Rattle.json_read_names.specs.Parts.{Reading, whole_number, time, all_items, list}
 use Rattle.json_read_names.specs.ReadsNames.{party, payee, choice_id, bound}
 use Rattle.json_write_contracts.specs.WrittenNames.{number_json, time_fits, party_json, payee_json, choice_id_json}

@@ -12,21 +12,21 @@ use Rattle.std.specs.Ordering.{is_lt, is_eq}
 use Rattle.std.specs.FinMap.Entries.{below_all, is_sorted}
 use Rattle.std.specs.Cmp.{IsTotalOrder}
 use Rattle.std.specs.FinMap.{FinMap, IsAntisymmetric, empty, entries, entries_sorted, from_entries, get-entries, get-from_entries, same_map}
-use Rattle.names.specs.declared.account.Account.{Account}
-use Rattle.names.specs.Orders.{bytes_cmp, account_cmp, choice_id_cmp}
-use Rattle.names.specs.Totals.{bytes_total, account_total, choice_id_total}
-use Rattle.names.proofs.Exact.{bytes_exact, account_exact, choice_id_exact}
-use Rattle.states.specs.States.{StateMaps, AllPositive}
-use Rattle.collections.specs.Repeats.{has_key, has_repeat}
+use Rattle.contract.specs.Names.declared.account.Account.{Account}
+use Rattle.contract.specs.Names.Orders.{bytes_cmp, account_cmp, choice_id_cmp}
+use Rattle.contract.specs.Names.Totals.{bytes_total, account_total, choice_id_total}
+use Rattle.contract.proofs.FromNames.Exact.{bytes_exact, account_exact, choice_id_exact}
+use Rattle.contract.specs.States.States.{StateMaps, AllPositive}
+use Rattle.contract.specs.Collections.Repeats.{has_key, has_repeat}
 use Rattle.std.specs.Fmt.{signed_decimal}
 use Rattle.serde_json.specs.Data.{Data, string, Items, no_items, item}
 use Rattle.serde_json.specs.Find.{as_array}
-use Rattle.collections.specs.Answers.{◌>>=◌}
+use Rattle.contract.specs.Collections.Answers.{◌>>=◌}
 use Rattle.json_read_names.specs.Parts.{Reading, needed, all_items, list, time}
 use Rattle.json_read_inputs.specs.ReadsState.{account_row_by, choice_row_by, bound_row_by, rows_into, rows, state_by, state, state_with_texts}
 use Rattle.json_read_inputs.specs.ReadsNumber.{number_or_text}
 use Rattle.json_read_inputs.specs.Rows.{and_then, until_fault}
-use Rattle.names.specs.declared.choice_id.ChoiceId.{ChoiceId}
+use Rattle.contract.specs.Names.declared.choice_id.ChoiceId.{ChoiceId}
 use Rattle.serde_json.specs.Data.{array}
 use Rattle.serde_json.specs.View.{items_of}
 use Rattle.json_read_names.specs.Parts.{text, whole_number}

@@ -1,7 +1,7 @@
 -- The state in an outcome, as it is read again.
 use Rattle.std.specs.Prelude.{codes}
 use Rattle.serde_json.specs.Data.{Data}
-use Rattle.states.specs.States.{StateMaps}
+use Rattle.contract.specs.States.States.{StateMaps}
 use Rattle.json_read_names.specs.Parts.{Reading, reading_at}
 use Rattle.json_read_inputs.specs.ReadsState.{state_with_texts}
 

@@ -15,13 +15,11 @@ ghost use Rattle.json_write_contracts.specs.WrittenNames.{number_fits, time_fits
 ghost use Rattle.contract_json.specs.Puts.{PutsInput};
 ghost use Rattle.contract_json.specs.WrittenInput.{input_json, input_fits, interval_json, transaction_json, transaction_fits};
 
-use collections::{Items, Memory};
-use contract::{Input, Interval, Transaction};
+use contract::{ChoiceId, Input, Interval, Items, Memory, Party, Token, Transaction};
 use json::Writer;
 use json_write_contracts::{
     WriteFault, end_with_one, put_member, put_number, symbol_is_bytes, word,
 };
-use names::{ChoiceId, Party, Token};
 use std::alloc::Global;
 
 // The last member of an object, a number, and the object's end.

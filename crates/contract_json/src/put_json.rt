@@ -1,6 +1,6 @@
 //! What is written as JSON, and how it becomes a text or a `serde_json` value.
 ghost use Rattle.std.specs.Prelude.{◌≡◌, ◌≤◌, Bool, true, length, Some, IfOk, OnOk, OnErr, IsUtf8};
-ghost use Rattle.collections.specs.Answers.{AsideBy};
+ghost use Rattle.contract.specs.Collections.Answers.{AsideBy};
 ghost use Rattle.serde_json.specs.Data.{Data, depth};
 ghost use Rattle.serde_json.specs.Read.{read, max_depth};
 ghost use Rattle.serde_json.specs.View.{view};
@@ -10,7 +10,7 @@ ghost use Rattle.json_write_contracts.specs.Tokens.{Keeps, PutsFitting};
 ghost use Rattle.json_write_contracts.specs.Written.{in_range};
 ghost use Rattle.contract_json.specs.Readable.{Readable};
 
-use collections::Memory;
+use contract::Memory;
 use json::Writer;
 use json_tree::{Refusal, value_of_text};
 use json_write_contracts::WriteFault;

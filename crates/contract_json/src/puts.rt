@@ -18,8 +18,8 @@ ghost use Rattle.contract_json.specs.WrittenInput.{input_json, input_fits, trans
 use crate::inputs::{put_input, put_transaction};
 use crate::put_json::PutJson;
 use contract::{
-    Action, Case, Contract, Input, Observation, Outcome, Payment, State, Transaction, Value,
-    Warning,
+    Action, Bound, Case, ChoiceId, Contract, Input, Observation, Outcome, Party, Payee, Payment,
+    State, Token, Transaction, Value, Warning,
 };
 use json::Writer;
 use json_write_contracts::{
@@ -27,7 +27,6 @@ use json_write_contracts::{
     put_party, put_payee, put_token, put_value,
 };
 use json_write_outcomes::{put_outcome, put_payment, put_state, put_warning};
-use names::{Bound, ChoiceId, Party, Payee, Token};
 use std::alloc::Global;
 
 /// A party.

@@ -2,16 +2,15 @@
 ghost use Rattle.std.specs.Prelude.{◌≡◌, true, All, FitsSigned, Ok};
 ghost use Rattle.std.specs.FinMap.{entries};
 ghost use Rattle.std.specs.Int.{w128};
-ghost use Rattle.states.specs.States.{AllPositive};
+ghost use Rattle.contract.specs.States.States.{AllPositive};
 ghost use Rattle.json_read_inputs.specs.ReadsState as state_reads;
 ghost use Rattle.json_write_contracts.specs.WrittenNames.{time_fits};
 ghost use Rattle.json_write_outcomes.specs.Each.{HasBytes};
 ghost use Rattle.json_write_outcomes.specs.WrittenOutcome.{state_json};
 ghost use Rattle.contract_json.specs.Readable.{HasBits};
 
-use contract::{State, Text};
+use contract::{Account, ChoiceId, State, Text};
 use json_write_contracts::symbol_is_bytes;
-use names::{Account, ChoiceId};
 
 fn see_number(number: i128)
     ensures { FitsSigned w128 number }

@@ -1,6 +1,6 @@
 //! From a text to its reading, and from a value to its text.
 ghost use Rattle.std.specs.Prelude.{◌≡◌, ◌≤◌, length, IfOk, Ok};
-ghost use Rattle.collections.specs.Answers.{Aside, AsideBy};
+ghost use Rattle.contract.specs.Collections.Answers.{Aside, AsideBy};
 ghost use Rattle.serde_json.specs.Data.{depth};
 ghost use Rattle.serde_json.specs.Read.{max_depth};
 ghost use Rattle.serde_json.specs.Written.{compact_text};

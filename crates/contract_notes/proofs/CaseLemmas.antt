@@ -3,8 +3,8 @@ use Rattle.std.proofs.Common.{◌≡◌, ℕ, zero, suc, ◌+◌, ◌<◌, ◌�
 use Rattle.contract.specs.declared.tree.Case.{Case}
 use Rattle.contract.specs.Tree.{ActionTree, ContractTree, CaseTrees, case_then, action_tree, contract_tree, case_tree, case_trees}
 use Rattle.contract.proofs.TreeLaws.{case_tree-parts}
-use Rattle.names.specs.declared.party.Party.{Party}
-use Rattle.states.specs.States.{StateMaps}
+use Rattle.contract.specs.Names.declared.party.Party.{Party}
+use Rattle.contract.specs.States.States.{StateMaps}
 use Rattle.analysis_spec.specs.declared.path.PathStep.{PathStep}
 use Rattle.analysis_spec.specs.declared.path.PathStep.TheVariants.{Case as InCase, Action}
 use Rattle.contract_notes.specs.declared.note.Source.{Source}

@@ -3,22 +3,22 @@ use Rattle.std.proofs.Common.{◌≡◌, ℕ, zero, suc, ℤ, pos, ◌+ℤ◌, i
 use Rattle.std.specs.Option.{unwrap_or}
 use Rattle.std.specs.Ordering.{eq_by_cmp}
 use Rattle.std.specs.FinMap.{get, insert, get-insert}
-use Rattle.names.specs.declared.choice_id.ChoiceId.{ChoiceId}
-use Rattle.names.specs.declared.payee.Payee.{Payee}
-use Rattle.names.specs.declared.payee.Payee.TheVariants as payees
-use Rattle.names.specs.declared.token.Token.{Token}
-use Rattle.names.specs.Equal.{same_text, same_choice_id}
-use Rattle.names.specs.Orders.{bytes_cmp, choice_id_cmp}
-use Rattle.names.specs.Totals.{bytes_total, choice_id_total}
-use Rattle.names.proofs.Exact.{bytes_exact}
-use Rattle.names.proofs.EqualLaws.{order_decides, same_choice_id_decides}
+use Rattle.contract.specs.Names.declared.choice_id.ChoiceId.{ChoiceId}
+use Rattle.contract.specs.Names.declared.payee.Payee.{Payee}
+use Rattle.contract.specs.Names.declared.payee.Payee.TheVariants as payees
+use Rattle.contract.specs.Names.declared.token.Token.{Token}
+use Rattle.contract.specs.Names.Equal.{same_text, same_choice_id}
+use Rattle.contract.specs.Names.Orders.{bytes_cmp, choice_id_cmp}
+use Rattle.contract.specs.Names.Totals.{bytes_total, choice_id_total}
+use Rattle.contract.proofs.FromNames.Exact.{bytes_exact}
+use Rattle.contract.proofs.FromNames.EqualLaws.{order_decides, same_choice_id_decides}
 use Rattle.contract.specs.declared.input.Input.{Input}
 use Rattle.contract.specs.declared.input.Input.TheVariants as inputs
 use Rattle.contract.specs.declared.interval.Interval.{Interval}
 use Rattle.contract.specs.Tree.{ActionTree, deposit, choice, notify, ContractTree, CaseTrees, close, pay, if_obs, when, let_be, assert, no_cases, case_then}
-use Rattle.states.specs.States.{StateMaps, with_money}
-use Rattle.evaluation.specs.Evaluation.{eval, holds}
-use Rattle.evaluation.specs.Path.{waits_for, case_list}
+use Rattle.contract.specs.States.States.{StateMaps, with_money}
+use Rattle.semantics.specs.Evaluation.Evaluation.{eval, holds}
+use Rattle.semantics.specs.Evaluation.Path.{waits_for, case_list}
 use Rattle.semantics.specs.Walk.{Standing, standing, then_branch, else_branch}
 use Rattle.semantics.specs.Reduction.{Reduction, Reduces, account_of, refunded, balance, debited, credited, with_bound}
 use Rattle.semantics.specs.Applying.{matches, IsFirstMatch, taken}

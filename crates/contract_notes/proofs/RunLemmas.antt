@@ -9,8 +9,8 @@ use Rattle.contract.specs.declared.input.Input.{Input}
 use Rattle.contract.specs.declared.interval.Interval.{Interval}
 use Rattle.contract.specs.declared.transaction.Transaction.{Transaction}
 use Rattle.contract.specs.Tree.{ContractTree}
-use Rattle.states.specs.States.{StateMaps}
-use Rattle.evaluation.specs.Numbers.{all_fit}
+use Rattle.contract.specs.States.States.{StateMaps}
+use Rattle.semantics.specs.Evaluation.Numbers.{all_fit}
 use Rattle.semantics.specs.Walk.{Turn, Standing, standing, Walk, ThenFrom, Then, answer_of}
 use Rattle.semantics.specs.Reduction.{Reduction}
 use Rattle.semantics.specs.Settling.{Runs, Ends, Settles, walk_through}

@@ -1,6 +1,6 @@
 -- Parties behind parties.
 use Rattle.std.proofs.Common.{◌≡◌, List, [], ◌∷◌, ◌++◌, append_assoc, ap, ◌∙◌}
-use Rattle.names.specs.declared.party.Party.{Party}
+use Rattle.contract.specs.Names.declared.party.Party.{Party}
 
 -- two parties, and then others
 pub two_and_more : (a b c d : List Party) (p q : Party) (x : List Party) → b ≡ a ++ p ∷ [] → c ≡ b ++ q ∷ [] → d ≡ c ++ x → d ≡ a ++ p ∷ q ∷ x

@@ -1,7 +1,7 @@
 -- Worked notes: the start state has no name.
 use Rattle.std.proofs.Common.{◌≡◌, ℤ, ◌||◌, false, is_some, List, [], ◌∷◌, ◌++◌, if◌then◌else◌, Option, None, ap}
 use Rattle.std.specs.FinMap.{get, empty, get-empty}
-use Rattle.names.specs.Orders.{bytes_cmp}
+use Rattle.contract.specs.Names.Orders.{bytes_cmp}
 use Rattle.semantics.specs.Rows.{name_x}
 use Rattle.contract_notes.specs.declared.note.Source.{Source}
 use Rattle.contract_notes.specs.declared.note.Source.TheVariants.{Name}

@@ -1,11 +1,11 @@
 -- What isn't read is no matter: another number for it changes neither a value nor an observation.
 use Rattle.std.specs.Prelude.{◌≡◌, ℕ, false, is_some, List}
 use Rattle.std.specs.FinMap.{get}
-use Rattle.names.specs.declared.choice_id.ChoiceId.{ChoiceId}
+use Rattle.contract.specs.Names.declared.choice_id.ChoiceId.{ChoiceId}
 use Rattle.contract.specs.declared.interval.Interval.{Interval}
 use Rattle.contract.specs.Tree.{ValueTree, ObservationTree}
-use Rattle.states.specs.States.{StateMaps}
-use Rattle.evaluation.specs.Evaluation.{eval, holds}
+use Rattle.contract.specs.States.States.{StateMaps}
+use Rattle.semantics.specs.Evaluation.Evaluation.{eval, holds}
 use Rattle.contract_notes.specs.declared.note.Source.{Source}
 use Rattle.contract_notes.specs.declared.note.Source.TheVariants.{Name, Choice}
 use Rattle.contract_notes.specs.Reads.{same_source, reads, looks_at}

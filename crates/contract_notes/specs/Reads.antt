@@ -1,7 +1,7 @@
 -- What reads the number of a name or of a choice, told along values, observations and contracts. That a choice was made
 -- (`chose_something`) doesn't read its number.
 use Rattle.std.specs.Prelude.{Bool, false, ◌||◌}
-use Rattle.names.specs.Equal.{same_text, same_choice_id}
+use Rattle.contract.specs.Names.Equal.{same_text, same_choice_id}
 use Rattle.contract.specs.Tree.{ValueTree, available_money, constant, neg_value, add_value, sub_value, mul_value, div_value, choice_value, time_interval_start, time_interval_end, use_value, cond_value}
 use Rattle.contract.specs.Tree.{ObservationTree, and_obs, or_obs, not_obs, chose_something, value_ge, value_gt, value_lt, value_le, value_eq, true_obs, false_obs}
 use Rattle.contract.specs.Tree.{ActionTree, deposit, choice, notify, ContractTree, CaseTrees, close, pay, if_obs, when, let_be, assert, no_cases, case_then}

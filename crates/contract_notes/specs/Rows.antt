@@ -1,7 +1,7 @@
 -- Worked notes, each computed on the definitions.
 use Rattle.std.specs.Prelude.{◌≡◌, pos, false, [], ◌∷◌}
-use Rattle.names.specs.Equal.{ada}
-use Rattle.names.specs.declared.payee.Payee.TheVariants.{Party as ToParty}
+use Rattle.contract.specs.Names.Equal.{ada}
+use Rattle.contract.specs.Names.declared.payee.Payee.TheVariants.{Party as ToParty}
 use Rattle.contract.specs.Tree.{constant, use_value, choice_value, value_gt, choice, ContractTree, close, pay, when, let_be, if_obs, no_cases, case_then}
 use Rattle.semantics.specs.Rows.{party_a, party_b, name_x, nothing}
 use Rattle.analysis_spec.specs.declared.path.PathStep.TheVariants.{Action}

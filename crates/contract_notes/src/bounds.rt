@@ -3,7 +3,7 @@ ghost use Rattle.std.specs.Prelude.{◌≡◌};
 ghost use Rattle.std.specs.List.{list_all};
 ghost use Rattle.contract_notes.specs.Notes.{holds_only, first_number, is_varied};
 
-use names::Bound;
+use contract::Bound;
 
 /// Whether bounds have more than one number.
 pub(crate) fn is_varied(bounds: &[Bound]) -> bool

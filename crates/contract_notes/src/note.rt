@@ -1,7 +1,6 @@
 //! Notes.
 use analysis_spec::PathStep;
-use collections::{Items, Text};
-use names::ChoiceId;
+use contract::{ChoiceId, Items, Text};
 
 /// Where a number comes from that values read: a Let binds it to a name, or a choice is made.
 #[derive(Debug, Drop)]

@@ -3,9 +3,9 @@ ghost use Rattle.std.specs.Prelude.{◌≡◌, [], ◌∷◌, ◌++◌, map, IfO
 ghost use Rattle.contract.specs.Tree.{value_tree, observation_tree, action_tree, case_tree, case_trees, contract_tree};
 ghost use Rattle.contract_notes.specs.Parties.{tallied, tally, not_again, parties_of, parties_in, parties_awaited, parties_named, parties_by, once_of, payee_party};
 
-use collections::{Entries, Items, Memory, TryClone};
-use contract::{Action, Case, Contract, Observation, Value};
-use names::{Party, Payee};
+use contract::{
+    Action, Case, Contract, Entries, Items, Memory, Observation, Party, Payee, TryClone, Value,
+};
 use std::alloc::Global;
 
 /// The parties that a contract names at one place alone, in their order.

@@ -1,14 +1,12 @@
 //! What reads a name or a choice.
 ghost use Rattle.std.specs.Prelude.{◌≡◌, map};
 ghost use Rattle.contract.specs.Tree.{value_tree, observation_tree, action_tree, case_tree, case_trees, contract_tree};
-ghost use Rattle.names.specs.Equal.{same_text, same_choice_id};
+ghost use Rattle.contract.specs.Names.Equal.{same_text, same_choice_id};
 ghost use Rattle.contract_notes.specs.declared.note.Source.TheVariants.{Name as OfName, Choice as OfChoice};
 ghost use Rattle.contract_notes.specs.Reads.{same_source, reads, looks_at, waits_on, is_read_in, is_read_by};
 
 use crate::note::Source;
-use collections::{Items, Same, Text};
-use contract::{Action, Case, Contract, Observation, Value};
-use names::ChoiceId;
+use contract::{Action, Case, ChoiceId, Contract, Items, Observation, Same, Text, Value};
 
 /// Whether something in a contract reads the number. It is looked for from the front, up to the first that does.
 #[cycle(contracts)]

@@ -9,8 +9,7 @@ use crate::note::Source;
 use crate::reads::{is_choice, is_name, is_same};
 use analysis_spec::PathStep;
 use analysis_walk::part_behind;
-use collections::{Items, Memory, TryClone};
-use contract::{Action, Case, Contract, Observation, State, Value};
+use contract::{Action, Case, Contract, Items, Memory, Observation, State, TryClone, Value};
 
 /// Where a value stands: the whole contract, the state from which it starts, and the way to the place.
 #[derive(Clone, Copy)]

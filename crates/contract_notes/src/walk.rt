@@ -8,8 +8,7 @@ use crate::note::{Note, Remark, Source};
 use crate::reads::is_read_in;
 use crate::unbound::{Spot, add_missing, add_missing_in};
 use analysis_spec::PathStep;
-use collections::{Items, Memory, TryClone};
-use contract::{Action, Case, Contract, Observation, State, Value};
+use contract::{Action, Case, Contract, Items, Memory, Observation, State, TryClone, Value};
 use std::alloc::Global;
 
 /// What is noted of names and choices of a contract that starts in a state, in the order of the contract. It takes the length of the

@@ -2,7 +2,7 @@
 use Rattle.std.specs.Prelude.{List}
 use Rattle.contract.specs.declared.transaction.Transaction.{Transaction}
 use Rattle.contract.specs.Tree.{ContractTree}
-use Rattle.states.specs.States.{StateMaps}
+use Rattle.contract.specs.States.States.{StateMaps}
 use Rattle.semantics.specs.Walk.{standing}
 use Rattle.semantics.specs.Closing.{IsSpent}
 use Rattle.analysis_spec.specs.Runs.{stands_after}

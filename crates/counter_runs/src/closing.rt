@@ -4,8 +4,7 @@ ghost use Rattle.contract.specs.Tree.{contract_tree};
 ghost use Rattle.semantics.specs.Closing.{IsSpent};
 ghost use Rattle.counter_runs.specs.Closing.{CanClose};
 
-use collections::{Items, Memory};
-use contract::{Contract, Interval, SemFault, State, Transaction};
+use contract::{Contract, Interval, Items, Memory, SemFault, State, Transaction};
 use semantics::{Plain, Steps};
 use std::alloc::{AllocError, Global};
 

@@ -1,8 +1,7 @@
 //! Runs to the places at which a contract is closed.
 use crate::walk::{Try, try_closing};
 use analysis_spec::PathStep;
-use collections::{Items, Memory};
-use contract::{Contract, State, Transaction};
+use contract::{Contract, Items, Memory, State, Transaction};
 use run_ways::{Turns, Way, next_turns, spend};
 use std::alloc::Global;
 

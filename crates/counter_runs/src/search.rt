@@ -5,8 +5,7 @@ ghost use Rattle.analysis_spec.specs.PlacedRuns.{EndsAt};
 
 use crate::walk::{Try, try_run};
 use analysis_spec::Alarm;
-use collections::{Items, Memory};
-use contract::{Contract, State, Transaction};
+use contract::{Contract, Items, Memory, State, Transaction};
 use replay::replayed;
 use run_ways::{Turns, Way, next_turns, spend};
 use std::alloc::Global;

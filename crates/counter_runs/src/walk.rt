@@ -7,13 +7,12 @@ ghost use Rattle.std.specs.Prelude.{pos, ◌≤ℤ◌};
 
 use analysis_spec::{AlarmKind, PathStep};
 use analysis_walk::part_behind;
-use collections::{Items, Memory, Text, TryClone};
 use contract::{
-    Action, Bound, Case, ChoiceId, Contract, Input, Interval, Observation, Party, Payee, State,
-    Token, Transaction, Value,
+    Action, Bound, Case, ChoiceId, Contract, Input, Interval, Items, Memory, Observation, Party,
+    Payee, State, Text, Token, Transaction, TryClone, Value,
 };
-use evaluation::{Parts, holds, value};
 use run_ways::{Numbers, Point, Times, Turns, Way, entries_of, is_written, spend};
+use semantics::evaluation::{Parts, holds, value};
 use semantics::{Plain, matches};
 use std::alloc::Global;
 

@@ -7,7 +7,7 @@ use Rattle.std.proofs.lemmas.Bool.Decides.{nat_tests}
 use Rattle.std.proofs.Math.ListN.{set, length-set}
 use Rattle.std.proofs.lemmas.List.Edits.{length-remove}
 use Rattle.contract.specs.declared.tree.Contract.{Contract}
-use Rattle.names.specs.Equal.{same_text}
+use Rattle.contract.specs.Names.Equal.{same_text}
 use Rattle.definitions.specs.declared.definition.Definition.{Definition}
 use Rattle.definitions.specs.Named.{named, put_named, without_named, bytes_of, has_room}
 use Rattle.definitions.specs.NamedSupport.{place_of}

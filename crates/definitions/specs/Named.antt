@@ -1,7 +1,7 @@
 -- Contracts by their names.
 use Rattle.std.specs.Prelude.{ℕ, ◌+◌, ◌&&◌, Bool, List, [], ◌∷◌, length, nat_le, Option, Some, None, is_some, if◌then◌else◌}
 use Rattle.contract.specs.declared.tree.Contract.{Contract}
-use Rattle.names.specs.Equal.{same_text}
+use Rattle.contract.specs.Names.Equal.{same_text}
 use Rattle.definitions.specs.declared.definition.Definition.{Definition}
 
 -- the contract of a name

@@ -1,6 +1,6 @@
 -- Where a name stands in the list.
 use Rattle.std.specs.Prelude.{ℕ, suc, List, [], ◌∷◌, Option, Some, None, option_map, if◌then◌else◌}
-use Rattle.names.specs.Equal.{same_text}
+use Rattle.contract.specs.Names.Equal.{same_text}
 use Rattle.definitions.specs.declared.definition.Definition.{Definition}
 
 -- the first place of a name, from 0

@@ -3,8 +3,7 @@ ghost use Rattle.std.specs.Prelude.{◌≡◌, true};
 ghost use Rattle.contract.specs.Tree.{contract_tree};
 ghost use Rattle.json_write_contracts.specs.WrittenContract.{contract_fits};
 
-use collections::Text;
-use contract::Contract;
+use contract::{Contract, Text};
 
 /// A contract by a name. JSON has all its numbers.
 pub struct Definition {

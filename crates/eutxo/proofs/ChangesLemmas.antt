@@ -8,10 +8,10 @@ use Rattle.std.specs.Cmp.{Equal-is, tied_itself}
 use Rattle.std.specs.Ordering.{eq_by_cmp, int_eq, is_eq, is_lt, ordering_reverse}
 use Rattle.std.specs.declared.cmp.Ordering.{Ordering}
 use Rattle.std.specs.declared.cmp.Ordering.TheVariants.{Less, Equal, Greater}
-use Rattle.names.specs.declared.token.Token.{Token}
-use Rattle.names.specs.Orders.{token_cmp}
-use Rattle.names.specs.Totals.{token_total}
-use Rattle.names.proofs.Exact.{token_exact}
+use Rattle.contract.specs.Names.declared.token.Token.{Token}
+use Rattle.contract.specs.Names.Orders.{token_cmp}
+use Rattle.contract.specs.Names.Totals.{token_total}
+use Rattle.contract.proofs.FromNames.Exact.{token_exact}
 use Rattle.eutxo.specs.ChangesSupport.{NoneBelow, NeverFalls, goes_on, uneven}
 use Rattle.eutxo.proofs.TallyLemmas.{share, tally}
 

@@ -9,10 +9,10 @@ use Rattle.std.specs.Option.{unwrap_or, is_some}
 use Rattle.std.specs.Ordering.{eq_by_cmp, int_eq}
 use Rattle.std.specs.FinMap.{entries, get-entries}
 use Rattle.std.specs.FinMap.Entries.{find, is_some-find}
-use Rattle.names.specs.declared.token.Token.{Token}
-use Rattle.names.specs.Orders.{token_cmp}
-use Rattle.bundle.specs.Bundles.{Amounts, amount_of}
-use Rattle.bundle.specs.Totals.{total_of}
+use Rattle.contract.specs.Names.declared.token.Token.{Token}
+use Rattle.contract.specs.Names.Orders.{token_cmp}
+use Rattle.eutxo_types.specs.Bundle.Bundles.{Amounts, amount_of}
+use Rattle.eutxo_types.specs.Bundle.Totals.{total_of}
 use Rattle.eutxo.specs.Differing.{tokens_of, differs, first_differing}
 use Rattle.eutxo.specs.ChangesSupport.{changes_of, NeverFalls, uneven}
 use Rattle.eutxo.proofs.TallyLemmas.{tally, tally-append, tally-changes, tally-permutation}

@@ -6,11 +6,11 @@ use Rattle.std.specs.List.{AllByRecursion}
 use Rattle.std.specs.Ordering.{eq_by_cmp, is_eq}
 use Rattle.std.specs.FinMap.{FinMap, entries, get, get-insert, get-empty, get-entries}
 use Rattle.std.specs.FinMap.Entries.{find}
-use Rattle.names.specs.Orders.{bytes_cmp}
-use Rattle.names.specs.Totals.{bytes_total}
-use Rattle.names.proofs.Exact.{bytes_exact}
-use Rattle.bundle.specs.Bundles.{Amounts}
-use Rattle.machine.specs.declared.datum.Datum.{Datum}
+use Rattle.contract.specs.Names.Orders.{bytes_cmp}
+use Rattle.contract.specs.Names.Totals.{bytes_total}
+use Rattle.contract.proofs.FromNames.Exact.{bytes_exact}
+use Rattle.eutxo_types.specs.Bundle.Bundles.{Amounts}
+use Rattle.eutxo_types.specs.Machine.declared.datum.Datum.{Datum}
 use Rattle.eutxo_types.specs.declared.fault.TxFault.{TxFault}
 use Rattle.eutxo.specs.Asked.{Judges, Stepping}
 use Rattle.eutxo.specs.Checks.{CheckOf}

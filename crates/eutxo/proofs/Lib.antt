@@ -19,3 +19,7 @@ pub mod JudgementLemmas
 pub mod LocalLemmas
 pub mod WorkedLemmas
 pub mod ChecksLemmas
+pub mod FromCollections
+pub mod FromNames
+pub mod FromSemantics
+pub mod FromBundle

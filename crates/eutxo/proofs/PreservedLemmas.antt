@@ -2,8 +2,8 @@
 use Rattle.std.proofs.Common.{◌≡◌, ℤ, pos, ◌+ℤ◌, neg_ℤ, Option, Some, None, refl, subst, arith}
 use Rattle.std.proofs.lemmas.Int.{ints}
 use Rattle.std.specs.Option.{option_map}
-use Rattle.names.specs.declared.token.Token.{Token}
-use Rattle.bundle.specs.Totals.{total_of}
+use Rattle.contract.specs.Names.declared.token.Token.{Token}
+use Rattle.eutxo_types.specs.Bundle.Totals.{total_of}
 use Rattle.eutxo_types.specs.declared.fault.TxFault.TheVariants.{NotPreserved}
 use Rattle.eutxo_types.specs.declared.output.Output.{Output}
 use Rattle.eutxo_types.specs.declared.spend.Spend.{Spend}

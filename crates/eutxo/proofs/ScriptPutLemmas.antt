@@ -3,8 +3,8 @@ use Rattle.std.proofs.Common.{◌≡◌, ℕ, List, Result, Ok, Err, OnOk, sym, 
 use Rattle.std.proofs.Math.Dec.{T}
 use Rattle.std.specs.FinMap.{from_sorted, insert, entries-from_sorted, entries-insert, same_entries_map}
 use Rattle.std.specs.FinMap.Entries.{put, is_sorted, is_sorted-put}
-use Rattle.names.specs.Orders.{bytes_cmp}
-use Rattle.names.specs.Totals.{bytes_total}
+use Rattle.contract.specs.Names.Orders.{bytes_cmp}
+use Rattle.contract.specs.Names.Totals.{bytes_total}
 
 module _ {X : Type 0} (k : List ℕ) (v : X) (es : List (List ℕ × X)) (s : T (is_sorted bytes_cmp es)) where
   pub sorted_put : T (is_sorted bytes_cmp (put bytes_cmp k v es))

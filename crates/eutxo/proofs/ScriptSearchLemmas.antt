@@ -7,11 +7,11 @@ use Rattle.std.specs.Ordering.{ordering_index, ordering_reverse}
 use Rattle.std.specs.declared.cmp.Ordering.{Ordering}
 use Rattle.std.specs.declared.cmp.Ordering.TheVariants.{Less, Equal, Greater}
 use Rattle.std.specs.FinMap.Entries.{is_sorted}
-use Rattle.collections.proofs.Places.{third, IsAt, IsGap}
-use Rattle.collections.proofs.Halving.{rises}
-use Rattle.names.specs.Orders.{bytes_cmp}
-use Rattle.names.specs.Totals.{bytes_total}
-use Rattle.names.proofs.Exact.{bytes_exact}
+use Rattle.contract.proofs.FromCollections.Places.{third, IsAt, IsGap}
+use Rattle.contract.proofs.FromCollections.Halving.{rises}
+use Rattle.contract.specs.Names.Orders.{bytes_cmp}
+use Rattle.contract.specs.Names.Totals.{bytes_total}
+use Rattle.contract.proofs.FromNames.Exact.{bytes_exact}
 
 turned : (a b : List ℕ) (r : Ordering) → bytes_cmp a b ≡ r → bytes_cmp b a ≡ ordering_reverse r
 turned a b r h = bytes_total.antisymm b a ∙ ap ordering_reverse h

@@ -11,12 +11,12 @@ use Rattle.std.specs.Ordering.{eq_by_cmp, is_eq}
 use Rattle.std.specs.declared.cmp.Ordering.TheVariants.{Less, Equal, Greater}
 use Rattle.std.specs.FinMap.{entries, entries_sorted, get-entries}
 use Rattle.std.specs.FinMap.Entries.{find, is_sorted, below_all}
-use Rattle.collections.proofs.Places.{second, third, below_head, below_tail, below_equal}
-use Rattle.names.specs.declared.token.Token.{Token}
-use Rattle.names.specs.Orders.{token_cmp}
-use Rattle.names.specs.Totals.{token_total}
-use Rattle.bundle.specs.Bundles.{Amounts, amount_of}
-use Rattle.bundle.specs.Totals.{total_of}
+use Rattle.contract.proofs.FromCollections.Places.{second, third, below_head, below_tail, below_equal}
+use Rattle.contract.specs.Names.declared.token.Token.{Token}
+use Rattle.contract.specs.Names.Orders.{token_cmp}
+use Rattle.contract.specs.Names.Totals.{token_total}
+use Rattle.eutxo_types.specs.Bundle.Bundles.{Amounts, amount_of}
+use Rattle.eutxo_types.specs.Bundle.Totals.{total_of}
 use Rattle.eutxo.specs.ChangesSupport.{signed, signed_entries, changes_of}
 
 -- what an entry has of a token

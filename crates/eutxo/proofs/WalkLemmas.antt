@@ -5,7 +5,7 @@ use Rattle.std.specs.List.{slice_get, cons_option}
 use Rattle.std.specs.Option.{option_map}
 use Rattle.std.proofs.lemmas.List.{at_drop_more, drop_all, append-nil, length-append}
 use Rattle.std.proofs.lemmas.Bool.{ltb-true, ltb-false}
-use Rattle.machine.specs.declared.datum.Datum.{Datum}
+use Rattle.eutxo_types.specs.Machine.declared.datum.Datum.{Datum}
 use Rattle.eutxo_types.specs.declared.fault.TxFault.{TxFault}
 use Rattle.eutxo_types.specs.declared.fault.TxFault.TheVariants.{StrayContract, TooManyContracts}
 use Rattle.eutxo_types.specs.declared.output.Output.{Output}

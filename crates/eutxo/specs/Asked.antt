@@ -1,8 +1,8 @@
 -- What scripts are asked, and what they answer.
 use Rattle.std.specs.Prelude.{ℕ, Bool, List}
 use Rattle.contract.specs.declared.input.Input.{Input}
-use Rattle.bundle.specs.Bundles.{Amounts}
-use Rattle.machine.specs.declared.datum.Datum.{Datum}
+use Rattle.eutxo_types.specs.Bundle.Bundles.{Amounts}
+use Rattle.eutxo_types.specs.Machine.declared.datum.Datum.{Datum}
 use Rattle.eutxo_types.specs.declared.output.Output.{Output}
 use Rattle.eutxo_types.specs.declared.spend.Spend.{Spend}
 use Rattle.eutxo_types.specs.declared.tx.Tx.{Tx}

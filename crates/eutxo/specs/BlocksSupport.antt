@@ -5,7 +5,7 @@ use Rattle.eutxo_types.specs.declared.fault.TxFault.{TxFault}
 use Rattle.eutxo_types.specs.declared.output.Output.{Output}
 use Rattle.eutxo_types.specs.declared.spend.Spend.{Spend}
 use Rattle.eutxo_types.specs.declared.tx.Tx.{Tx}
-use Rattle.machine.specs.declared.datum.Datum.{Datum}
+use Rattle.eutxo_types.specs.Machine.declared.datum.Datum.{Datum}
 use Rattle.eutxo_types.specs.Parts.{inputs_of, is_contract, ContractLock, contract_in}
 use Rattle.eutxo.specs.declared.block_rules.Walked.{Walked}
 use Rattle.eutxo.specs.declared.validator.StepAnswer.{StepAnswer}

@@ -3,10 +3,10 @@
 use Rattle.std.specs.Prelude.{◌≡◌, ℤ, pos, ◌+ℤ◌, neg_ℤ, Bool, false, if◌then◌else◌, List, [], ◌∷◌, ◌++◌, Option, Some, None}
 use Rattle.std.specs.FinMap.{entries}
 use Rattle.std.specs.Ordering.{int_eq, is_lt}
-use Rattle.names.specs.declared.token.Token.{Token}
-use Rattle.names.specs.Equal.{same_token}
-use Rattle.names.specs.Orders.{token_cmp}
-use Rattle.bundle.specs.Bundles.{Amounts}
+use Rattle.contract.specs.Names.declared.token.Token.{Token}
+use Rattle.contract.specs.Names.Equal.{same_token}
+use Rattle.contract.specs.Names.Orders.{token_cmp}
+use Rattle.eutxo_types.specs.Bundle.Bundles.{Amounts}
 
 -- an amount, which counts against the others where it is made
 abbrev pub signed : Bool → ℤ → ℤ

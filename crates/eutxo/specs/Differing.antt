@@ -2,10 +2,10 @@
 use Rattle.std.specs.Prelude.{Bool, not, if◌then◌else◌, List, [], ◌∷◌, ◌++◌, map, filter, Option, Some, None}
 use Rattle.std.specs.FinMap.{entries}
 use Rattle.std.specs.Ordering.{int_eq, is_lt}
-use Rattle.names.specs.declared.token.Token.{Token}
-use Rattle.names.specs.Orders.{token_cmp}
-use Rattle.bundle.specs.Bundles.{Amounts}
-use Rattle.bundle.specs.Totals.{total_of}
+use Rattle.contract.specs.Names.declared.token.Token.{Token}
+use Rattle.contract.specs.Names.Orders.{token_cmp}
+use Rattle.eutxo_types.specs.Bundle.Bundles.{Amounts}
+use Rattle.eutxo_types.specs.Bundle.Totals.{total_of}
 
 -- the tokens that these hold
 abbrev pub tokens_of : {A : Type 0} → (A → Amounts) → List A → List Token

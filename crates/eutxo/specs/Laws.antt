@@ -2,11 +2,11 @@
 use Rattle.std.specs.Prelude.{◌≡◌, ◌≢◌, Bool, List, [], ◌∷◌, Option, Some, None}
 use Rattle.std.specs.List.{AllByRecursion}
 use Rattle.std.specs.declared.cmp.Ordering.TheVariants.{Less}
-use Rattle.names.specs.declared.token.Token.{Token}
-use Rattle.names.specs.Orders.{token_cmp}
-use Rattle.bundle.specs.Bundles.{Amounts}
-use Rattle.bundle.specs.Totals.{total_of}
-use Rattle.machine.specs.declared.datum.Datum.{Datum}
+use Rattle.contract.specs.Names.declared.token.Token.{Token}
+use Rattle.contract.specs.Names.Orders.{token_cmp}
+use Rattle.eutxo_types.specs.Bundle.Bundles.{Amounts}
+use Rattle.eutxo_types.specs.Bundle.Totals.{total_of}
+use Rattle.eutxo_types.specs.Machine.declared.datum.Datum.{Datum}
 use Rattle.eutxo_types.specs.declared.fault.TxFault.{TxFault}
 use Rattle.eutxo_types.specs.declared.fault.TxFault.TheVariants.{NotPreserved}
 use Rattle.eutxo_types.specs.declared.output.Output.{Output}

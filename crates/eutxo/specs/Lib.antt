@@ -14,3 +14,11 @@ pub mod Worked
 pub mod FoundSupport
 pub mod BlocksSupport
 pub mod ChangesSupport
+-- the crates below, passed on
+pub use Rattle.contract.specs.Collections
+pub use Rattle.contract.specs.Names
+pub use Rattle.eutxo_types.specs.ContractBytes
+pub use Rattle.eutxo_types.specs.Semantics
+pub use Rattle.eutxo_types.specs.Machine
+pub use Rattle.eutxo_types.specs.Bundle
+pub use Rattle.eutxo_types.specs as EutxoTypes

@@ -3,9 +3,9 @@
 use Rattle.std.specs.Prelude.{ℕ, ◌+◌, nat_lt, Bool, true, false, not, ◌||◌, if◌then◌else◌, List, [], ◌∷◌, ◌++◌, length, take, map, count_by, Option, Some, None, option_map}
 use Rattle.std.specs.List.{list_any}
 use Rattle.contract.specs.declared.input.Input.{Input}
-use Rattle.bundle.specs.Bundles.{Amounts}
-use Rattle.machine.specs.declared.datum.Datum.{Datum}
-use Rattle.names.specs.Equal.{same_text, same_bytes}
+use Rattle.eutxo_types.specs.Bundle.Bundles.{Amounts}
+use Rattle.eutxo_types.specs.Machine.declared.datum.Datum.{Datum}
+use Rattle.contract.specs.Names.Equal.{same_text, same_bytes}
 use Rattle.eutxo_types.specs.declared.fault.TxFault.{TxFault}
 use Rattle.eutxo_types.specs.declared.fault.TxFault.TheVariants.{NoInputs, TooMany, RepeatedInput, NotSigned, TooManyContracts, WrongRedeemer, RoleMissing, WrongStart, NotPreserved, WrongDatum}
 use Rattle.eutxo_types.specs.declared.lock.Lock.{Lock}

@@ -8,9 +8,9 @@ use Rattle.eutxo_types.specs.declared.output_ref.OutputRef.TheVariants.{Genesis}
 use Rattle.eutxo_types.specs.declared.redeemer.Redeemer.TheVariants as with
 use Rattle.eutxo_types.specs.declared.spend.Spend.{Spend}
 use Rattle.eutxo_types.specs.declared.tx.Tx.{Tx}
-use Rattle.machine.specs.declared.datum.Datum.{Datum}
-use Rattle.names.specs.declared.party.Party.{Party}
-use Rattle.names.specs.Equal.{same_bytes}
+use Rattle.eutxo_types.specs.Machine.declared.datum.Datum.{Datum}
+use Rattle.contract.specs.Names.declared.party.Party.{Party}
+use Rattle.contract.specs.Names.Equal.{same_bytes}
 use Rattle.eutxo.specs.declared.step_fault.StepFault.{StepFault}
 use Rattle.eutxo.specs.declared.step_fault.StepFault.TheVariants as steps
 use Rattle.eutxo.specs.declared.validator.StepAnswer.{StepAnswer}

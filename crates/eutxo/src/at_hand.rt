@@ -11,7 +11,7 @@ use crate::laws::equal_resolutions_decide_alike;
 use crate::local::judge_local;
 use crate::resolved::Resolved;
 use crate::validator::Validator;
-use collections::{Memory, Same, TryClone};
+use contract::{Memory, Same, TryClone};
 use eutxo_types::{Tx, TxFault, Verdict, tx_id};
 use std::alloc::Global;
 

@@ -15,7 +15,7 @@ use crate::scripts::Scripts;
 use crate::spent::Spent;
 use crate::steps::{Step, step_at};
 use crate::validator::{StepAnswer, Validator};
-use collections::Memory;
+use contract::Memory;
 use eutxo_types::{Output, Tx, TxFault};
 use std::alloc::{AllocError, Global};
 

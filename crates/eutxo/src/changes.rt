@@ -1,12 +1,12 @@
 //! What is spent and made, token by token.
 ghost use Rattle.std.specs.Prelude.{◌≡◌, ◌++◌, pos, ◌<ℤ◌, true, false, IfOk, OnOk};
 ghost use Rattle.std.specs.List.Sorted.{IsPermutation};
-ghost use Rattle.bundle.specs.Bundles.{AllPositive};
+ghost use Rattle.eutxo_types.specs.Bundle.Bundles.{AllPositive};
 ghost use Rattle.eutxo.specs.ChangesSupport.{signed, signed_entries, changes_of, NeverFalls};
 
-use bundle::Holds;
-use collections::Memory;
-use names::{Token, compare_tokens};
+use contract::Memory;
+use contract::names::{Token, compare_tokens};
+use eutxo_types::Holds;
 use std::alloc::Global;
 use std::marker::Model;
 
@@ -20,8 +20,8 @@ pub(crate) struct Change<'a> {
 impl<'a> Model for Change<'a> {
     ghost use Rattle.std.specs.Prelude.{ℤ, pos, ◌<ℤ◌};
     ghost use Rattle.std.specs.Coded.{coded×, coded_ℤ};
-    ghost use Rattle.names.specs.declared.token.Token.{Token};
-    ghost use Rattle.names.specs.contracts.token.Token as tokens;
+    ghost use Rattle.contract.specs.Names.declared.token.Token.{Token};
+    ghost use Rattle.contract.specs.Names.contracts.token.Token as tokens;
     ghost use Rattle.eutxo.specs.ChangesSupport.{signed};
 
     ghost Value = { Token × ℤ };

@@ -9,7 +9,7 @@ use crate::local::judge_local;
 use crate::places::Places;
 use crate::resolved::Resolved;
 use crate::validator::Validator;
-use collections::{Memory, Same, TryClone};
+use contract::{Memory, Same, TryClone};
 use eutxo_types::{Tx, TxFault, Verdict, tx_id};
 use std::alloc::Global;
 use std::marker::Model;
@@ -28,11 +28,11 @@ pub struct Checked<V: Validator> {
 
 impl<V: Validator> Model for Checked<V> {
     ghost use Rattle.std.specs.Coded.{codes};
-    ghost use Rattle.states.specs.contracts.state.State as states;
-    ghost use Rattle.bundle.specs.contracts.bundle.Bundle as bundles;
+    ghost use Rattle.contract.specs.States.contracts.state.State as states;
+    ghost use Rattle.eutxo_types.specs.Bundle.contracts.bundle.Bundle as bundles;
     ghost use Rattle.std.specs.FinMap.{code};
     ghost use Rattle.std.specs.Coded.{coded_list, coded_ℕ};
-    ghost use Rattle.names.specs.Orders.{bytes_cmp};
+    ghost use Rattle.contract.specs.Names.Orders.{bytes_cmp};
     ghost use Rattle.eutxo.specs.Checks.{CheckOf, IsCheck};
 
     ghost Value = { CheckOf V };

@@ -5,7 +5,7 @@ ghost use Rattle.eutxo_types.specs.Parts.{contract_in, same_bytes};
 ghost use Rattle.eutxo.specs.Rules.{digest_in, digests_in, digests_held, first_unlike, wrong_datum};
 
 use crate::spent::Spent;
-use collections::Memory;
+use contract::Memory;
 use eutxo_types::{Datum, Lock, Output, Tx, TxFault, datum_hash};
 use std::alloc::Global;
 

@@ -3,7 +3,7 @@ ghost use Rattle.eutxo.specs.Laws.{EqualResolutionsAgree, EqualResolutionsDecide
 ghost use Rattle.eutxo.specs.BlockLaws.{BlocksTell, BlocksAreAlike, BlocksStay};
 ghost use Rattle.eutxo.specs.OneContract.{OneIsJudgedAlone};
 ghost use Rattle.eutxo.specs.Worked.{NothingIsNotUnspent, UsedIsInUse, TenIsOutside, UnpublishedIsUnknown, OverIsNotFollowed, NineAreTooMany, TheLowestAnswers};
-ghost use Rattle.machine.specs.declared.datum.Datum.{Datum};
+ghost use Rattle.eutxo_types.specs.Machine.declared.datum.Datum.{Datum};
 
 use crate::checked::Checked;
 use crate::resolved::Resolved;

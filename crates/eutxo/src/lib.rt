@@ -34,6 +34,15 @@ mod validator;
 
 pub use at_hand::{checks_of, id_at_hand, kept_among, recheck, rejudge};
 pub use checked::{Checked, check, check_owned, verdict_of};
+pub use contract::collections::{Bytes, Memory, Text, TryClone};
+pub use contract::names::{Token, compare_tokens};
+pub use eutxo_types::{
+    Bundle, BundleFault, Cont, ContractLock, Datum, Holds, Instance, Lock, Output, OutputRef,
+    Plain, Redeemer, Spell, Spend, Steps, Tx, TxFault, Verdict, WideSum, compute,
+    contracts_close_after_the_last_timeout, datum_hash, encode_contract, encode_tx, fits_spelling,
+    money_is_kept, no_transaction_begins_another, payments_are_natural, put_bytes, total_of,
+    transactions_end_quiet, turns_lead_to_the_remaining_contract, tx_id, with_datum,
+};
 pub use judged::Judged;
 pub use laws::{
     blocks_tell_contracts_apart, checks_cross_threads, checks_decide,

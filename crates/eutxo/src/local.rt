@@ -17,7 +17,7 @@ use crate::spent_rules::{not_signed, role_missing, too_many_contracts, wrong_red
 use crate::step_rules::step_fault;
 use crate::tx_rules::tx_fault;
 use crate::validator::Validator;
-use collections::Memory;
+use contract::Memory;
 use eutxo_types::{Tx, TxFault};
 use std::alloc::Global;
 

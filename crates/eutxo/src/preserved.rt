@@ -6,10 +6,9 @@ ghost use Rattle.eutxo.specs.Rules.{not_preserved};
 
 use crate::changes::{Change, changes_between};
 use crate::spent::Spent;
-use bundle::{Holds, WideSum};
-use collections::{Memory, TryClone};
-use eutxo_types::{Output, TxFault};
-use names::{Token, compare_tokens};
+use contract::names::{Token, compare_tokens};
+use contract::{Memory, TryClone};
+use eutxo_types::{Holds, Output, TxFault, WideSum};
 use std::alloc::Global;
 
 // Whether the change after this place is of the same token.

@@ -6,7 +6,7 @@ ghost use Rattle.eutxo.specs.Found.{with_outputs, script_at, is_known, all_known
 
 use crate::scripts::Scripts;
 use crate::spent::Spent;
-use collections::{Items, Memory, Same, TryClone};
+use contract::{Items, Memory, Same, TryClone};
 use eutxo_types::{Lock, Output, Spend, Tx};
 use std::alloc::Global;
 

@@ -3,12 +3,12 @@ ghost use Rattle.std.specs.Prelude.{◌≡◌, ◌↔◌, IsTrue, IfOk, OnOk, On
 ghost use Rattle.std.proofs.Math.Dec.{T};
 ghost use Rattle.std.specs.FinMap as map;
 ghost use Rattle.std.specs.FinMap.{find, put, is_sorted, from_sorted};
-ghost use Rattle.names.specs.Orders.{bytes_cmp};
-ghost use Rattle.collections.proofs.Places.{IsAt, IsGap};
+ghost use Rattle.contract.specs.Names.Orders.{bytes_cmp};
+ghost use Rattle.contract.proofs.FromCollections.Places.{IsAt, IsGap};
 ghost use Rattle.eutxo.specs.Found.{script_at, same_scripts, same_entries};
 
 use crate::shared::Shared;
-use collections::{Entries, Memory, Same, TryClone};
+use contract::{Entries, Memory, Same, TryClone};
 use std::alloc::Global;
 use std::marker::Model;
 
@@ -26,7 +26,7 @@ impl<V> Model for Scripts<V> {
     ghost use Rattle.std.specs.FinMap.{FinMap, code, from_sorted, is_sorted};
     ghost use Rattle.std.specs.Coded.{coded_list, coded_ℕ};
     ghost use Rattle.std.proofs.Math.Dec.{T};
-    ghost use Rattle.names.specs.Orders.{bytes_cmp};
+    ghost use Rattle.contract.specs.Names.Orders.{bytes_cmp};
 
     ghost Value = { FinMap bytes_cmp V };
 

@@ -2,7 +2,7 @@
 ghost use Rattle.std.specs.Prelude.{◌≡◌};
 ghost use Rattle.std.specs.Arc.{arc_value};
 
-use collections::{Memory, Same, TryClone};
+use contract::{Memory, Same, TryClone};
 use std::alloc::Global;
 use std::marker::Model;
 use std::sync::Arc;

@@ -1,8 +1,7 @@
 //! Inputs with the outputs that they spend.
 ghost use Rattle.std.specs.Prelude.{◌≡◌};
 
-use bundle::{Bundle, Holds};
-use eutxo_types::{Output, Spend};
+use eutxo_types::{Bundle, Holds, Output, Spend};
 use std::marker::Model;
 
 /// An input and the output that it spends, lent. Clauses see the pair of them.

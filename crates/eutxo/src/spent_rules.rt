@@ -6,7 +6,7 @@ ghost use Rattle.eutxo.specs.Rules.{lacks_signer, not_signed, too_many_contracts
 use crate::spent::Spent;
 use crate::tx_rules::has_signed;
 use crate::validator::Validator;
-use collections::Text;
+use contract::Text;
 use eutxo_types::{Lock, Redeemer, TxFault};
 
 fn lacks_signer(signers: &[Text], lock: &Lock) -> bool

@@ -10,9 +10,8 @@ use crate::judged::{Judged, judged_as};
 use crate::scripts::Scripts;
 use crate::spent::Spent;
 use crate::validator::Validator;
-use bundle::Bundle;
-use collections::Memory;
-use eutxo_types::{Datum, Instance, Tx, TxFault, with_datum};
+use contract::Memory;
+use eutxo_types::{Bundle, Datum, Instance, Tx, TxFault, with_datum};
 use std::alloc::Global;
 
 fn starts_wrong<V: Validator>(

@@ -20,7 +20,7 @@ pub struct Step<'a> {
 
 impl<'a> Model for Step<'a> {
     ghost use Rattle.std.specs.Coded.{codes};
-    ghost use Rattle.machine.specs.contracts.datum.Datum as datums;
+    ghost use Rattle.eutxo_types.specs.Machine.contracts.datum.Datum as datums;
     ghost use Rattle.contract.specs.contracts.input.Input as given;
     ghost use Rattle.eutxo_types.specs.contracts.output_ref.OutputRef as references;
     ghost use Rattle.eutxo.specs.Rules as rules;

@@ -6,7 +6,7 @@ ghost use Rattle.eutxo_types.specs.Parts.{same_ref};
 ghost use Rattle.eutxo.specs.Rules.{no_inputs, has_too_many, too_many, is_repeated, repeated_input, has_signed};
 ghost use Rattle.eutxo.specs.Local.{tx_fault};
 
-use collections::Text;
+use contract::Text;
 use eutxo_types::{Spend, Tx, TxFault};
 
 /// How many inputs a transaction, and how many of the contract's a redeemer, may have.

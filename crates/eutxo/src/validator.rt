@@ -1,15 +1,13 @@
 //! How scripts judge.
 ghost use Rattle.std.specs.Prelude.{◌≡◌, true, IfOk};
-ghost use Rattle.bundle.specs.Bundles.{Amounts};
-ghost use Rattle.machine.specs.declared.datum.Datum.{Datum};
+ghost use Rattle.eutxo_types.specs.Bundle.Bundles.{Amounts};
+ghost use Rattle.eutxo_types.specs.Machine.declared.datum.Datum.{Datum};
 ghost use Rattle.eutxo.specs.Asked.{Stepping, question, Judges};
 
 use crate::spent::Spent;
 use crate::step_fault::StepFault;
-use bundle::Bundle;
-use collections::{Bytes, Memory, Text};
-use contract::{Input, SemFault};
-use eutxo_types::{Datum, Tx};
+use contract::{Bytes, Input, Memory, SemFault, Text};
+use eutxo_types::{Bundle, Datum, Tx};
 use std::alloc::Global;
 
 /// What a script answers to a step of its contract. The outputs that the step makes are a block: the one in which the

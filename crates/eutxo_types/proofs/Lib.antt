@@ -1,2 +1,4 @@
 pub mod SpellingLemmas
 pub mod WorkedLemmas
+pub mod FromSemantics
+pub mod FromBundle

@@ -2,12 +2,12 @@
 use Rattle.std.proofs.Common.{◌≡◌, refl, sym, ◌∙◌, ℕ, List}
 use Rattle.std.specs.FinMap.{entries, same_entries_map}
 use Rattle.bundle.specs.Bundles.{Amounts}
-use Rattle.contract_bytes.specs.Numbers.{text_bytes, TextFits}
-use Rattle.contract_bytes.specs.Names.{holding_bytes, HoldingFits}
-use Rattle.contract_bytes.specs.Inputs.{input_bytes, InputFits}
-use Rattle.contract_bytes.specs.Unambiguous.{ReadsOneWay, BeginsNoOther}
-use Rattle.contract_bytes.proofs.Apart.{Tells, shows, nothing, both, tagged, other, of_one_length, length_tells, time_tells, text_tells, list_tells, reads_one_way, begins_no_other}
-use Rattle.contract_bytes.proofs.ApartNames.{holding_tells, input_tells}
+use Rattle.machine.specs.ContractBytes.Numbers.{text_bytes, TextFits}
+use Rattle.machine.specs.ContractBytes.Names.{holding_bytes, HoldingFits}
+use Rattle.machine.specs.ContractBytes.Inputs.{input_bytes, InputFits}
+use Rattle.machine.specs.ContractBytes.Unambiguous.{ReadsOneWay, BeginsNoOther}
+use Rattle.machine.proofs.FromContractBytes.Apart.{Tells, shows, nothing, both, tagged, other, of_one_length, length_tells, time_tells, text_tells, list_tells, reads_one_way, begins_no_other}
+use Rattle.machine.proofs.FromContractBytes.ApartNames.{holding_tells, input_tells}
 use Rattle.eutxo_types.specs.declared.output.Output.{Output}
 use Rattle.eutxo_types.specs.declared.output_ref.OutputRef.{OutputRef}
 use Rattle.eutxo_types.specs.declared.output_ref.OutputRef.TheVariants as references

@@ -1,8 +1,8 @@
 -- The worked spellings come out as they should.
 use Rattle.std.proofs.Common.{◌≡◌, refl, ap, ◌++◌, ◌∷◌, []}
-use Rattle.contract_bytes.specs.Numbers.{length_bytes, number_bytes, time_bytes, text_bytes, list_bytes}
-use Rattle.contract_bytes.specs.Names.{holding_bytes}
-use Rattle.contract_bytes.specs.States.{money_bytes, chosen_bytes, bound_value_bytes}
+use Rattle.machine.specs.ContractBytes.Numbers.{length_bytes, number_bytes, time_bytes, text_bytes, list_bytes}
+use Rattle.machine.specs.ContractBytes.Names.{holding_bytes}
+use Rattle.machine.specs.ContractBytes.States.{money_bytes, chosen_bytes, bound_value_bytes}
 use Rattle.std.specs.Prelude.{pos, replicate}
 use Rattle.sha2.specs.Sha256.{sha256}
 use Rattle.machine.specs.Spelling.{cont_bytes, datum_bytes}

@@ -2,9 +2,9 @@
 use Rattle.std.specs.Prelude.{◌≡◌, ℕ, ◌<◌, ◌^◌, List, length}
 use Rattle.std.specs.FinMap.{entries}
 use Rattle.bundle.specs.Bundles.{Amounts}
-use Rattle.contract_bytes.specs.Numbers.{TimeFits, TextFits, ListFits}
-use Rattle.contract_bytes.specs.Names.{HoldingFits}
-use Rattle.contract_bytes.specs.Inputs.{InputFits}
+use Rattle.machine.specs.ContractBytes.Numbers.{TimeFits, TextFits, ListFits}
+use Rattle.machine.specs.ContractBytes.Names.{HoldingFits}
+use Rattle.machine.specs.ContractBytes.Inputs.{InputFits}
 use Rattle.machine.specs.Spelling.{DatumFits}
 use Rattle.eutxo_types.specs.declared.output.Output.{Output}
 use Rattle.eutxo_types.specs.declared.output_ref.OutputRef.{OutputRef}

@@ -1,7 +1,7 @@
 -- What is read of the parts of a transaction, each in one place.
 use Rattle.std.specs.Prelude.{ℕ, Bool, true, false, ◌==◌, ◌&&◌, if◌then◌else◌, List, [], ◌∷◌, take, drop, count_by, slice_get, Option, Some, None}
 use Rattle.std.specs.List.{list_any}
-pub use Rattle.names.specs.Equal.{same_bytes}
+pub use Rattle.contract.specs.Names.Equal.{same_bytes}
 use Rattle.contract.specs.declared.input.Input.{Input}
 use Rattle.machine.specs.declared.datum.Datum.{Datum}
 use Rattle.eutxo_types.specs.declared.lock.Lock.{Lock}

@@ -2,9 +2,9 @@
 use Rattle.std.specs.Prelude.{ℕ, List, [], ◌∷◌, ◌++◌}
 use Rattle.std.specs.FinMap.{entries}
 use Rattle.bundle.specs.Bundles.{Amounts}
-use Rattle.contract_bytes.specs.Numbers.{length_bytes, time_bytes, text_bytes, list_bytes}
-use Rattle.contract_bytes.specs.Names.{holding_bytes}
-use Rattle.contract_bytes.specs.Inputs.{input_bytes}
+use Rattle.machine.specs.ContractBytes.Numbers.{length_bytes, time_bytes, text_bytes, list_bytes}
+use Rattle.machine.specs.ContractBytes.Names.{holding_bytes}
+use Rattle.machine.specs.ContractBytes.Inputs.{input_bytes}
 use Rattle.machine.specs.Spelling.{datum_bytes}
 use Rattle.eutxo_types.specs.declared.output.Output.{Output}
 use Rattle.eutxo_types.specs.declared.output_ref.OutputRef.{OutputRef}

@@ -3,8 +3,8 @@ use Rattle.std.specs.Prelude.{◌≡◌, pos, [], ◌∷◌, ◌++◌, replicate
 use Rattle.std.specs.FinMap.{entries}
 use Rattle.bundle.specs.Bundles.{Amounts}
 use Rattle.contract.specs.declared.input.Input.TheVariants as inputs
-use Rattle.names.specs.Equal.{ada}
-use Rattle.states.specs.States.{StateMaps}
+use Rattle.contract.specs.Names.Equal.{ada}
+use Rattle.contract.specs.States.States.{StateMaps}
 use Rattle.eutxo_types.specs.declared.output_ref.OutputRef.TheVariants as references
 use Rattle.eutxo_types.specs.declared.redeemer.Redeemer.TheVariants as redeemers
 use Rattle.eutxo_types.specs.declared.lock.Lock.TheVariants as locks

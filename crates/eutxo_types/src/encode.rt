@@ -3,7 +3,7 @@
 ghost use Rattle.std.specs.Prelude.{◌≡◌, ◌++◌, IfOk, OnOk, OnErr};
 ghost use Rattle.eutxo_types.specs.Fitting.{PlaceFits, IdFits, ReferenceFits, RedeemerFits, SpendFits, LockFits, AmountFits, OutputFits, TxFits};
 ghost use Rattle.eutxo_types.specs.Spelling.{place_bytes, reference_bytes, redeemer_bytes, spend_bytes, lock_bytes, amount_bytes, output_bytes, tx_bytes};
-ghost use Rattle.contract_bytes.specs.Writing.{AppendsFront};
+ghost use Rattle.machine.specs.ContractBytes.Writing.{AppendsFront};
 
 use crate::lock::Lock;
 use crate::output::Output;
@@ -12,8 +12,8 @@ use crate::redeemer::Redeemer;
 use crate::spend::Spend;
 use crate::tx::Tx;
 use bundle::Bundle;
-use collections::Memory;
-use contract_bytes::{Spell, put_byte, put_length, put_list, put_time};
+use contract::Memory;
+use machine::contract_bytes::{Spell, put_byte, put_length, put_list, put_time};
 use std::alloc::Global;
 
 fn put_id(out: &mut Vec<u8>, id: &[u8; 32]) -> Result<(), Memory>

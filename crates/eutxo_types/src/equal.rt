@@ -4,11 +4,11 @@ use crate::output::Output;
 use crate::redeemer::Redeemer;
 use crate::spend::Spend;
 use crate::tx::Tx;
-use collections::Same;
+use contract::Same;
 
 impl PartialEq for Lock {
-    ghost use Rattle.collections.specs.Same.{same_by};
-    ghost use Rattle.collections.proofs.SameLaws.{same_by-partial};
+    ghost use Rattle.contract.specs.Collections.Same.{same_by};
+    ghost use Rattle.contract.proofs.FromCollections.SameLaws.{same_by-partial};
     ghost use Rattle.eutxo_types.specs.contracts.lock.Lock as it;
 
     ghost eq = { same_by it.the_row.coded };
@@ -21,15 +21,15 @@ impl PartialEq for Lock {
 }
 
 impl Eq for Lock {
-    ghost use Rattle.collections.proofs.SameLaws.{same_by-equiv};
+    ghost use Rattle.contract.proofs.FromCollections.SameLaws.{same_by-equiv};
     ghost use Rattle.eutxo_types.specs.contracts.lock.Lock as it;
 
     ghost laws = { same_by-equiv it.the_row.coded };
 }
 
 impl PartialEq for Output {
-    ghost use Rattle.collections.specs.Same.{same_by};
-    ghost use Rattle.collections.proofs.SameLaws.{same_by-partial};
+    ghost use Rattle.contract.specs.Collections.Same.{same_by};
+    ghost use Rattle.contract.proofs.FromCollections.SameLaws.{same_by-partial};
     ghost use Rattle.eutxo_types.specs.contracts.output.Output as it;
 
     ghost eq = { same_by it.the_row.coded };
@@ -42,15 +42,15 @@ impl PartialEq for Output {
 }
 
 impl Eq for Output {
-    ghost use Rattle.collections.proofs.SameLaws.{same_by-equiv};
+    ghost use Rattle.contract.proofs.FromCollections.SameLaws.{same_by-equiv};
     ghost use Rattle.eutxo_types.specs.contracts.output.Output as it;
 
     ghost laws = { same_by-equiv it.the_row.coded };
 }
 
 impl PartialEq for Redeemer {
-    ghost use Rattle.collections.specs.Same.{same_by};
-    ghost use Rattle.collections.proofs.SameLaws.{same_by-partial};
+    ghost use Rattle.contract.specs.Collections.Same.{same_by};
+    ghost use Rattle.contract.proofs.FromCollections.SameLaws.{same_by-partial};
     ghost use Rattle.eutxo_types.specs.contracts.redeemer.Redeemer as it;
 
     ghost eq = { same_by it.the_row.coded };
@@ -63,15 +63,15 @@ impl PartialEq for Redeemer {
 }
 
 impl Eq for Redeemer {
-    ghost use Rattle.collections.proofs.SameLaws.{same_by-equiv};
+    ghost use Rattle.contract.proofs.FromCollections.SameLaws.{same_by-equiv};
     ghost use Rattle.eutxo_types.specs.contracts.redeemer.Redeemer as it;
 
     ghost laws = { same_by-equiv it.the_row.coded };
 }
 
 impl PartialEq for Spend {
-    ghost use Rattle.collections.specs.Same.{same_by};
-    ghost use Rattle.collections.proofs.SameLaws.{same_by-partial};
+    ghost use Rattle.contract.specs.Collections.Same.{same_by};
+    ghost use Rattle.contract.proofs.FromCollections.SameLaws.{same_by-partial};
     ghost use Rattle.eutxo_types.specs.contracts.spend.Spend as it;
 
     ghost eq = { same_by it.the_row.coded };
@@ -84,15 +84,15 @@ impl PartialEq for Spend {
 }
 
 impl Eq for Spend {
-    ghost use Rattle.collections.proofs.SameLaws.{same_by-equiv};
+    ghost use Rattle.contract.proofs.FromCollections.SameLaws.{same_by-equiv};
     ghost use Rattle.eutxo_types.specs.contracts.spend.Spend as it;
 
     ghost laws = { same_by-equiv it.the_row.coded };
 }
 
 impl PartialEq for Tx {
-    ghost use Rattle.collections.specs.Same.{same_by};
-    ghost use Rattle.collections.proofs.SameLaws.{same_by-partial};
+    ghost use Rattle.contract.specs.Collections.Same.{same_by};
+    ghost use Rattle.contract.proofs.FromCollections.SameLaws.{same_by-partial};
     ghost use Rattle.eutxo_types.specs.contracts.tx.Tx as it;
 
     ghost eq = { same_by it.the_row.coded };
@@ -105,7 +105,7 @@ impl PartialEq for Tx {
 }
 
 impl Eq for Tx {
-    ghost use Rattle.collections.proofs.SameLaws.{same_by-equiv};
+    ghost use Rattle.contract.proofs.FromCollections.SameLaws.{same_by-equiv};
     ghost use Rattle.eutxo_types.specs.contracts.tx.Tx as it;
 
     ghost laws = { same_by-equiv it.the_row.coded };

@@ -1,10 +1,10 @@
 //! That what is in memory fits its spelling: its numbers, times and lengths have the room that the spelling gives them.
 //! Nothing is spelled here: each of these only reads what it is lent.
 ghost use Rattle.std.specs.Prelude.{◌<◌, ◌^◌, All};
-ghost use Rattle.contract_bytes.specs.Numbers.{NumberFits, TimeFits, TextFits, ListFits};
-ghost use Rattle.contract_bytes.specs.Names.{PartyFits, TokenFits, ChoiceIdFits, HoldingFits};
-ghost use Rattle.contract_bytes.specs.Inputs.{InputFits};
-ghost use Rattle.contract_bytes.specs.States.{MoneyFits, ChosenFits, BoundValueFits, StateFits};
+ghost use Rattle.machine.specs.ContractBytes.Numbers.{NumberFits, TimeFits, TextFits, ListFits};
+ghost use Rattle.machine.specs.ContractBytes.Names.{PartyFits, TokenFits, ChoiceIdFits, HoldingFits};
+ghost use Rattle.machine.specs.ContractBytes.Inputs.{InputFits};
+ghost use Rattle.machine.specs.ContractBytes.States.{MoneyFits, ChosenFits, BoundValueFits, StateFits};
 ghost use Rattle.machine.specs.Spelling.{DatumFits};
 ghost use Rattle.eutxo_types.specs.Fitting.{PlaceFits, IdFits, ReferenceFits, RedeemerFits, SpendFits, LockFits, AmountFits, OutputFits, TxFits};
 
@@ -15,8 +15,7 @@ use crate::redeemer::Redeemer;
 use crate::spend::Spend;
 use crate::tx::Tx;
 use bundle::Bundle;
-use collections::{Bytes, Text};
-use contract::{Account, ChoiceId, Input, Party, State, Token};
+use contract::{Account, Bytes, ChoiceId, Input, Party, State, Text, Token};
 use machine::Datum;
 
 /// What fits its spelling wherever it is in memory.

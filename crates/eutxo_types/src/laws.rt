@@ -1,5 +1,5 @@
 //! Laws of the spelling, each the contract of a function that does nothing.
-ghost use Rattle.contract_bytes.specs.Unambiguous.{ReadsOneWay, BeginsNoOther};
+ghost use Rattle.machine.specs.ContractBytes.Unambiguous.{ReadsOneWay, BeginsNoOther};
 ghost use Rattle.eutxo_types.specs.Spelling.{output_bytes, spend_bytes, tx_bytes};
 ghost use Rattle.eutxo_types.specs.Fitting.{OutputFits, SpendFits, TxFits};
 ghost use Rattle.eutxo_types.specs.Worked.{BeginsTheLedger, MadeByOneTransaction, NoneIsZero, ClaimIsOne, StepIsTwo, KeyOfX, PayoutOfB, ContractOfZeros, ThirtySixZeros, NothingHeld, FiveAda, OneTransaction};

@@ -2,7 +2,7 @@
 ghost use Rattle.std.specs.Prelude.{◌≡◌};
 ghost use Rattle.eutxo_types.specs.Parts.{is_key, is_payout, is_contract, contract_in, payout_in};
 
-use collections::{Bytes, Memory, Same, Text, TryClone};
+use contract::{Bytes, Memory, Same, Text, TryClone};
 use std::marker::Model;
 
 /// What guards the spending of an output: for a contract its validator and its datum, here by the datum's digest (The

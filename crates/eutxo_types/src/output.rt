@@ -1,7 +1,7 @@
 //! Outputs.
 use crate::lock::Lock;
 use bundle::{Bundle, Holds};
-use collections::{Memory, Same, TryClone};
+use contract::{Memory, Same, TryClone};
 
 /// An output (The Extended UTXO Model, "Extended UTXO model: EUTXO"): what guards its spending, and how much it
 /// holds of each token. It is spent at most once, and whole.

@@ -2,7 +2,7 @@
 ghost use Rattle.std.specs.Prelude.{◌≡◌};
 ghost use Rattle.eutxo_types.specs.Parts.{same_ref};
 
-use collections::{Memory, Same, TryClone};
+use contract::{Memory, Same, TryClone};
 
 /// What names an output (The Extended UTXO Model, "Basic UTXO Ledger"): one that the ledger began with, by its
 /// place among those, or one that a transaction made, by that transaction's id and the output's place among its

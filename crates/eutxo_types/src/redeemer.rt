@@ -2,8 +2,7 @@
 ghost use Rattle.std.specs.Prelude.{◌≡◌};
 ghost use Rattle.eutxo_types.specs.Parts.{is_step, inputs_of};
 
-use collections::{Items, Memory, Same, TryClone};
-use contract::Input;
+use contract::{Input, Items, Memory, Same, TryClone};
 
 /// What an input hands to the lock of its output (The Extended UTXO Model, "Extended UTXO model: EUTXO").
 #[derive(Debug, Drop)]

@@ -1,7 +1,7 @@
 //! Inputs of transactions on the ledger.
 use crate::output_ref::OutputRef;
 use crate::redeemer::Redeemer;
-use collections::{Memory, Same, TryClone};
+use contract::{Memory, Same, TryClone};
 
 /// An input of a transaction on the ledger: the output that it spends, and what it hands to that output's lock.
 #[derive(Debug, Drop)]

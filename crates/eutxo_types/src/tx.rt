@@ -5,8 +5,7 @@ ghost use Rattle.eutxo_types.specs.Parts.{contract_in, step_count, contract_coun
 use crate::lock::Lock;
 use crate::output::Output;
 use crate::spend::Spend;
-use collections::{Items, Memory, Same, Text, TryClone};
-use contract::Interval;
+use contract::{Interval, Items, Memory, Same, Text, TryClone};
 use machine::Datum;
 use std::marker::Model;
 

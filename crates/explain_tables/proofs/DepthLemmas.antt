@@ -6,7 +6,7 @@ use Rattle.std.proofs.lemmas.List.{reverse-append}
 use Rattle.contract.specs.declared.tree.Case.{Case}
 use Rattle.contract.proofs.TreeLaws.{case_tree-parts}
 use Rattle.contract.specs.Tree.{ActionTree, ContractTree, CaseTrees, case_tree, case_trees, contract_tree}
-use Rattle.table.specs.Heights.{contract_height}
+use Rattle.compiler.specs.Table.Heights.{contract_height}
 use Rattle.analysis_spec.specs.declared.path.PathStep.{PathStep}
 use Rattle.analysis_spec.specs.declared.path.PathStep.TheVariants.{Then, Else, TimeoutContinuation, Case as InCase, Action}
 use Rattle.analysis_spec.specs.Places.{behind_case, part_behind}

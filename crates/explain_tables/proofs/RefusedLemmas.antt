@@ -3,8 +3,8 @@ use Rattle.std.proofs.Common.{◌≡◌, ℕ, zero, suc, ◌+◌, ◌<◌, ◌�
 use Rattle.std.proofs.lemmas.Bool.{le-leb, lt-leb}
 use Rattle.std.specs.Option.{option_and_then}
 use Rattle.contract.specs.Tree.{ActionTree, deposit, choice, notify, ContractTree, CaseTrees, close, pay, if_obs, when, let_be, assert, no_cases, case_then}
-use Rattle.table.specs.Heights.{greatest, case_over, case_heights, contract_height}
-use Rattle.lowering.specs.Sizes.{conts, others}
+use Rattle.compiler.specs.Table.Heights.{greatest, case_over, case_heights, contract_height}
+use Rattle.compiler.specs.Lowering.Sizes.{conts, others}
 use Rattle.compiler.specs.declared.fault.CompileFault.TheVariants as faults
 use Rattle.compiler.specs.Limits.{compile_fault}
 use Rattle.analysis_spec.specs.declared.path.PathStep.{PathStep}

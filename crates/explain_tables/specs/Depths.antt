@@ -1,7 +1,7 @@
 -- Where a contract is too deep for a table, and how many nodes it has.
 use Rattle.std.specs.Prelude.{◌≡◌, ℕ, ◌+◌, ◌<◌, ◌≤◌, List, [], ◌∷◌, ◌⊎◌, Some}
 use Rattle.contract.specs.Tree.{ContractTree}
-use Rattle.table.specs.Heights.{contract_height}
+use Rattle.compiler.specs.Table.Heights.{contract_height}
 use Rattle.analysis_spec.specs.declared.path.PathStep.{PathStep}
 use Rattle.analysis_spec.specs.declared.path.PathStep.TheVariants.{Then, Else, TimeoutContinuation, Case, Action}
 use Rattle.analysis_spec.specs.Places.{part_behind}

@@ -1,7 +1,7 @@
 -- No reader needs this file: it serves private functions. How the way to a part that is too high goes on.
 use Rattle.std.specs.Prelude.{◌≡◌, ℕ, ◌+◌, ◌<◌, ◌≤◌, reverse, Some}
 use Rattle.contract.specs.Tree.{ContractTree, CaseTrees, contract_tree}
-use Rattle.table.specs.Heights.{contract_height}
+use Rattle.compiler.specs.Table.Heights.{contract_height}
 use Rattle.analysis_spec.specs.declared.path.PathStep.TheVariants.{Case}
 use Rattle.analysis_spec.specs.Places.{behind_case, part_behind}
 use Rattle.explain_tables.specs.declared.branches.Branch.{Branch}

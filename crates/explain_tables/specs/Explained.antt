@@ -1,8 +1,8 @@
 -- Why a contract has no table, and the text that says so.
 use Rattle.std.specs.Prelude.{◌≡◌, ℕ, ◌^◌, ◌<◌, ◌≤◌, List, Option, Some, None, ◌⊎◌}
 use Rattle.contract.specs.Tree.{ContractTree}
-use Rattle.table.specs.Heights.{contract_height}
-use Rattle.lowering.specs.Sizes.{conts, others}
+use Rattle.compiler.specs.Table.Heights.{contract_height}
+use Rattle.compiler.specs.Lowering.Sizes.{conts, others}
 use Rattle.compiler.specs.declared.fault.CompileFault.{CompileFault}
 use Rattle.compiler.specs.declared.fault.CompileFault.TheVariants as faults
 use Rattle.compiler.specs.Limits.{compile_fault}

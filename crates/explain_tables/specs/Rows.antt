@@ -1,7 +1,7 @@
 -- Worked rows of depths, of lines and of members, computed on the definitions.
 use Rattle.std.specs.Prelude.{◌≡◌, pos, [], ◌∷◌, codes}
 use Rattle.contract.specs.Tree.{ContractTree, close, when, notify, true_obs, no_cases, case_then}
-use Rattle.table.specs.Heights.{contract_height}
+use Rattle.compiler.specs.Table.Heights.{contract_height}
 use Rattle.analysis_spec.specs.declared.path.PathStep.TheVariants.{Then, TimeoutContinuation, Case}
 use Rattle.explain_tables.specs.Depths.{levels_of}
 use Rattle.explain_tables.specs.Lines.{deep_line, continuations_line, others_line, deep_member, nodes_member}

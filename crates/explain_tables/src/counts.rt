@@ -1,10 +1,10 @@
 //! How many nodes a contract has.
 ghost use Rattle.std.specs.Prelude.{◌≡◌, ◌≤◌, ◌^◌, MatchOption};
 ghost use Rattle.contract.specs.Tree.{contract_tree};
-ghost use Rattle.lowering.specs.Sizes.{conts, others};
+ghost use Rattle.compiler.specs.Lowering.Sizes.{conts, others};
 
+use compiler::lowering::{conts_left, others_left};
 use contract::Contract;
-use lowering::{conts_left, others_left};
 
 /// How many continuations a contract has: none where they are 2^32 or more. A table has at most 65,535.
 pub fn continuations(contract: &Contract) -> Option<u32>

@@ -1,16 +1,15 @@
 //! Where a contract is too deep.
 ghost use Rattle.std.specs.Prelude.{◌≡◌, ◌+◌, ◌<◌, ◌≤◌, IfOk, MatchOption, map};
 ghost use Rattle.contract.specs.Tree.{case_tree, case_trees, contract_tree};
-ghost use Rattle.table.specs.Heights.{contract_height};
+ghost use Rattle.compiler.specs.Table.Heights.{contract_height};
 ghost use Rattle.explain_tables.specs.Depths.{levels, NoneIsHigh, IsTooDeepAt};
 ghost use Rattle.explain_tables.specs.DepthsSupport.{IsHighCase, LeadsHigh, NoCaseIsHigh};
 
 use crate::branches::{Branch, levels};
 use crate::strides::{Way, leap};
 use analysis_spec::PathStep;
-use collections::{Items, Memory};
-use contract::{Case, Contract};
-use lowering::is_low_contract;
+use compiler::lowering::is_low_contract;
+use contract::{Case, Contract, Items, Memory};
 use std::alloc::Global;
 
 /// The place of a contract that is higher than 999 at which it is too deep: the way goes down to a part that is too high for the room

@@ -1,6 +1,6 @@
 //! Why a contract has no table.
 use analysis_spec::PathStep;
-use collections::Items;
+use contract::Items;
 
 /// Why a contract has no table, and where.
 #[derive(Drop)]

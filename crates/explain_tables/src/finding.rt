@@ -1,15 +1,14 @@
 //! A second look at a contract that has no table.
 ghost use Rattle.std.specs.Prelude.{◌≤◌, IfOk, MatchOption};
 ghost use Rattle.contract.specs.Tree.{contract_tree};
-ghost use Rattle.table.specs.Heights.{contract_height};
+ghost use Rattle.compiler.specs.Table.Heights.{contract_height};
 ghost use Rattle.explain_tables.specs.Explained.{Explains, IsUntold};
 
 use crate::counts::{continuations, other_nodes};
 use crate::depths::too_deep_at;
 use crate::explanation::Explanation;
-use collections::Memory;
-use contract::Contract;
-use lowering::is_low_contract;
+use compiler::lowering::is_low_contract;
+use contract::{Contract, Memory};
 use std::alloc::Global;
 
 // The limits of a table.

@@ -6,8 +6,7 @@ ghost use Rattle.places.specs.Texts.{place_json};
 ghost use Rattle.explain_tables.specs.Lines as spec;
 
 use analysis_spec::PathStep;
-use collections::Memory;
-use contract::Contract;
+use contract::{Contract, Memory};
 use json::Writer;
 use json_members::{Count, put_first};
 use json_write_contracts::Term;

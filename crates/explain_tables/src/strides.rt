@@ -5,9 +5,8 @@ ghost use Rattle.explain_tables.specs.DepthsSupport.{GoesOn, IsFar};
 
 use crate::branches::{branch_at, branch_count, levels};
 use analysis_spec::PathStep;
-use collections::{Items, Memory};
-use contract::Contract;
-use lowering::is_low_contract;
+use compiler::lowering::is_low_contract;
+use contract::{Contract, Items, Memory};
 use std::alloc::Global;
 
 /// A part of a contract, and the room that the way there leaves.

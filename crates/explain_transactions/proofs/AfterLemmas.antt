@@ -7,10 +7,10 @@ use Rattle.contract.specs.declared.fault.SemFault.TheVariants.{Memory}
 use Rattle.contract.specs.declared.input.Input.{Input}
 use Rattle.contract.specs.declared.interval.Interval.{Interval}
 use Rattle.contract.specs.Tree.{ActionTree, ContractTree}
-use Rattle.states.specs.States.{StateMaps}
-use Rattle.evaluation.specs.Numbers.{all_fit}
-use Rattle.evaluation.specs.Path.{waits_for}
-use Rattle.evaluation.proofs.Numbers.{all_fit_append}
+use Rattle.contract.specs.States.States.{StateMaps}
+use Rattle.semantics.specs.Evaluation.Numbers.{all_fit}
+use Rattle.semantics.specs.Evaluation.Path.{waits_for}
+use Rattle.semantics.proofs.FromEvaluation.Numbers.{all_fit_append}
 use Rattle.semantics.specs.Walk.{Turn, in_case, Standing, standing, Walk, ended, joined, then_from, then_walk, answer_of}
 use Rattle.semantics.specs.Reduction.{Reduction, Quiet}
 use Rattle.semantics.specs.Settling.{reduction_then}

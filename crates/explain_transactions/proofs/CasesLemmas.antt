@@ -7,9 +7,9 @@ use Rattle.contract.specs.declared.fault.SemFault.TheVariants.{Leaves128}
 use Rattle.contract.specs.declared.input.Input.{Input}
 use Rattle.contract.specs.declared.interval.Interval.{Interval}
 use Rattle.contract.specs.Tree.{ActionTree, ContractTree}
-use Rattle.states.specs.States.{StateMaps}
-use Rattle.evaluation.specs.Numbers.{all_fit, within}
-use Rattle.evaluation.proofs.Numbers.{all_fit_append, within_ok}
+use Rattle.contract.specs.States.States.{StateMaps}
+use Rattle.semantics.specs.Evaluation.Numbers.{all_fit, within}
+use Rattle.semantics.proofs.FromEvaluation.Numbers.{all_fit_append, within_ok}
 use Rattle.semantics.specs.Applying.{matches, tried}
 use Rattle.semantics.specs.Computed.{first_match, tried_to_match}
 use Rattle.next_inputs.specs.Taking.{taken_case, leaving_case}

@@ -7,8 +7,8 @@ use Rattle.contract.specs.declared.fault.SemFault.{SemFault}
 use Rattle.contract.specs.declared.input.Input.{Input}
 use Rattle.contract.specs.declared.interval.Interval.{Interval}
 use Rattle.contract.specs.Tree.{ActionTree, ContractTree}
-use Rattle.evaluation.specs.Numbers.{all_fit}
-use Rattle.evaluation.proofs.Numbers.{all_fit_append}
+use Rattle.semantics.specs.Evaluation.Numbers.{all_fit}
+use Rattle.semantics.proofs.FromEvaluation.Numbers.{all_fit_append}
 use Rattle.semantics.specs.Walk.{Standing, standing, Walk}
 use Rattle.semantics.specs.Reduction.{Reduction}
 use Rattle.semantics.specs.Applying.{taken}

@@ -4,9 +4,9 @@ use Rattle.std.specs.Prelude.{slice_get, option_map}
 use Rattle.std.specs.Option.{option_and_then}
 use Rattle.contract.specs.declared.interval.Interval.{Interval}
 use Rattle.contract.specs.Tree.{ActionTree, ContractTree, close, pay, if_obs, when, let_be, assert}
-use Rattle.states.specs.States.{StateMaps}
-use Rattle.evaluation.specs.Evaluation.{holds}
-use Rattle.evaluation.specs.Path.{part, along, waits_for}
+use Rattle.contract.specs.States.States.{StateMaps}
+use Rattle.semantics.specs.Evaluation.Evaluation.{holds}
+use Rattle.semantics.specs.Evaluation.Path.{part, along, waits_for}
 use Rattle.semantics.specs.Walk.{Turn, in_case, then_branch, else_branch, Standing, standing}
 use Rattle.semantics.specs.Reduction.{Reduction, Reduces}
 use Rattle.semantics.specs.Applying.{taken}

@@ -5,18 +5,18 @@ use Rattle.std.proofs.lemmas.Bool.Decides.{nat_tests}
 use Rattle.contract.specs.declared.input.Input.{Input}
 use Rattle.std.specs.Int.{int_min}
 use Rattle.std.specs.FinMap.{entries}
-use Rattle.names.specs.declared.party.Party.{Party}
-use Rattle.names.specs.declared.payee.Payee.{Payee}
-use Rattle.names.specs.declared.payee.Payee.TheVariants.{Account as ToAccount, Party as ToParty}
-use Rattle.names.specs.declared.token.Token.{Token}
+use Rattle.contract.specs.Names.declared.party.Party.{Party}
+use Rattle.contract.specs.Names.declared.payee.Payee.{Payee}
+use Rattle.contract.specs.Names.declared.payee.Payee.TheVariants.{Account as ToAccount, Party as ToParty}
+use Rattle.contract.specs.Names.declared.token.Token.{Token}
 use Rattle.contract.specs.declared.fault.SemFault.{SemFault}
 use Rattle.contract.specs.declared.fault.SemFault.TheVariants.{Ambiguous, Leaves128, Memory}
 use Rattle.contract.specs.declared.interval.Interval.{Interval}
 use Rattle.contract.specs.Tree.{ValueTree, ContractTree, close, pay, if_obs, when, let_be, assert, contract_tree}
-use Rattle.states.specs.States.{StateMaps}
-use Rattle.evaluation.specs.Numbers.{all_fit, within}
-use Rattle.evaluation.specs.Evaluation.{eval, visited, holds, looked}
-use Rattle.evaluation.proofs.Numbers.{all_fit_append, from_cond}
+use Rattle.contract.specs.States.States.{StateMaps}
+use Rattle.semantics.specs.Evaluation.Numbers.{all_fit, within}
+use Rattle.semantics.specs.Evaluation.Evaluation.{eval, visited, holds, looked}
+use Rattle.semantics.proofs.FromEvaluation.Numbers.{all_fit_append, from_cond}
 use Rattle.semantics.specs.Walk.{Standing, standing, Walk, ended, answer_of}
 use Rattle.semantics.specs.Reduction.{Reduction, Reduces, Quiet, balance, paying, not_paying, choosing, timing_out, binding, asserting, account_of}
 use Rattle.semantics.specs.Settling.{Ends, walk_through}

@@ -3,22 +3,22 @@ use Rattle.std.proofs.Common.{◌≡◌, ℕ, zero, suc, ◌+◌, ℤ, pos, ◌�
 use Rattle.std.specs.Prelude.{slice_get}
 use Rattle.std.specs.Option.{is_none}
 use Rattle.std.proofs.lemmas.List.{take_at}
-use Rattle.names.specs.declared.account.Account.{Account}
-use Rattle.names.specs.declared.party.Party.{Party}
-use Rattle.names.specs.declared.payee.Payee.{Payee}
-use Rattle.names.specs.declared.payee.Payee.TheVariants.{Account as ToAccount, Party as ToParty}
-use Rattle.names.specs.declared.token.Token.{Token}
+use Rattle.contract.specs.Names.declared.account.Account.{Account}
+use Rattle.contract.specs.Names.declared.party.Party.{Party}
+use Rattle.contract.specs.Names.declared.payee.Payee.{Payee}
+use Rattle.contract.specs.Names.declared.payee.Payee.TheVariants.{Account as ToAccount, Party as ToParty}
+use Rattle.contract.specs.Names.declared.token.Token.{Token}
 use Rattle.contract.specs.declared.fault.SemFault.{SemFault}
 use Rattle.contract.specs.declared.fault.SemFault.TheVariants.{InvalidInterval, IntervalInPast, Ambiguous, NoMatch, Useless, Leaves128, Memory}
 use Rattle.contract.specs.declared.input.Input.{Input}
 use Rattle.contract.specs.declared.input.Input.TheVariants.{Deposit, Choice, Notify}
 use Rattle.contract.specs.declared.interval.Interval.{Interval}
 use Rattle.contract.specs.Tree.{ValueTree, ContractTree, close, pay, if_obs, when, let_be, assert, contract_tree}
-use Rattle.states.specs.States.{StateMaps}
-use Rattle.evaluation.specs.Numbers.{all_fit}
-use Rattle.evaluation.specs.Evaluation.{eval, visited, holds, looked}
-use Rattle.evaluation.specs.Path.{waits_for}
-use Rattle.evaluation.proofs.Numbers.{all_fit_append}
+use Rattle.contract.specs.States.States.{StateMaps}
+use Rattle.semantics.specs.Evaluation.Numbers.{all_fit}
+use Rattle.semantics.specs.Evaluation.Evaluation.{eval, visited, holds, looked}
+use Rattle.semantics.specs.Evaluation.Path.{waits_for}
+use Rattle.semantics.proofs.FromEvaluation.Numbers.{all_fit_append}
 use Rattle.semantics.specs.Walk.{Turn, Standing, standing, Walk, ended, joined, then_from, then_walk, answer_of}
 use Rattle.semantics.specs.Reduction.{Reduction, Quiet, IsAmbiguous, choosing, binding, asserting, account_of}
 use Rattle.semantics.specs.Settling.{reduction_then}

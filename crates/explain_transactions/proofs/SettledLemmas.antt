@@ -1,17 +1,17 @@
 -- Where a contract waits, it has settled already.
 use Rattle.std.proofs.Common.{◌≡◌, ℕ, ℤ, pos, ◌+ℤ◌, ◌≤ℤ◌, int_lt, Bool, true, false, cond, List, [], ◌∷◌, refl, sym, ap, ◌∙◌, inl, inr, Err}
 use Rattle.std.specs.Int.{int_min, int_max}
-use Rattle.names.specs.declared.party.Party.{Party}
-use Rattle.names.specs.declared.payee.Payee.{Payee}
-use Rattle.names.specs.declared.payee.Payee.TheVariants.{Account as ToAccount, Party as ToParty}
-use Rattle.names.specs.declared.token.Token.{Token}
+use Rattle.contract.specs.Names.declared.party.Party.{Party}
+use Rattle.contract.specs.Names.declared.payee.Payee.{Payee}
+use Rattle.contract.specs.Names.declared.payee.Payee.TheVariants.{Account as ToAccount, Party as ToParty}
+use Rattle.contract.specs.Names.declared.token.Token.{Token}
 use Rattle.contract.specs.declared.fault.SemFault.TheVariants.{InvalidInterval, IntervalInPast}
 use Rattle.contract.specs.declared.input.Input.{Input}
 use Rattle.contract.specs.declared.input.Input.TheVariants.{Deposit, Choice, Notify}
 use Rattle.contract.specs.declared.interval.Interval.{Interval}
 use Rattle.contract.specs.Tree.{ContractTree, close, pay, if_obs, when, let_be, assert}
-use Rattle.states.specs.States.{StateMaps, with_money}
-use Rattle.evaluation.specs.Evaluation.{eval}
+use Rattle.contract.specs.States.States.{StateMaps, with_money}
+use Rattle.semantics.specs.Evaluation.Evaluation.{eval}
 use Rattle.semantics.specs.Walk.{Standing, standing, Walk, ended}
 use Rattle.semantics.specs.Reduction.{Reduction, Reduces, Quiet, balance, account_of, debited, credited}
 use Rattle.semantics.specs.Applying.{taken}

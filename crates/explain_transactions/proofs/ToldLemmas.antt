@@ -6,7 +6,7 @@ use Rattle.std.proofs.lemmas.List.{take-append-drop, drop_more, take_more, take_
 use Rattle.contract.specs.declared.input.Input.{Input}
 use Rattle.contract.specs.declared.interval.Interval.{Interval}
 use Rattle.contract.specs.Tree.{ActionTree, ContractTree, contract_tree}
-use Rattle.states.specs.States.{StateMaps}
+use Rattle.contract.specs.States.States.{StateMaps}
 use Rattle.semantics.specs.Walk.{Turn, Standing, standing, Walk, answer_of}
 use Rattle.semantics.specs.Reduction.{Quiet, account_of}
 use Rattle.semantics.specs.Applying.{taken}

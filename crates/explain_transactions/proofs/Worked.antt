@@ -3,11 +3,11 @@ use Rattle.std.proofs.Common.{◌≡◌, ◌≤ℤ◌, ◌<ℤ◌, ℤ, pos, fal
 use Rattle.std.specs.Option.{unwrap_or}
 use Rattle.std.specs.FinMap.{get-from_sorted}
 use Rattle.std.proofs.lemmas.Int.{ints}
-use Rattle.names.specs.Equal.{ada}
-use Rattle.names.specs.Orders.{account_cmp}
+use Rattle.contract.specs.Names.Equal.{ada}
+use Rattle.contract.specs.Names.Orders.{account_cmp}
 use Rattle.contract.specs.declared.input.Input.TheVariants.{Notify}
 use Rattle.contract.specs.Tree.{close, no_cases, notify, when, true_obs}
-use Rattle.evaluation.specs.Numbers.{fits, all_fit}
+use Rattle.semantics.specs.Evaluation.Numbers.{fits, all_fit}
 use Rattle.semantics.specs.Walk.{standing}
 use Rattle.semantics.specs.Reduction.{account_of, balance, binding}
 use Rattle.semantics.specs.Applying.{taken_numbers}

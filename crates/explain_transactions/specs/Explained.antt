@@ -1,19 +1,19 @@
 -- Why a transaction is refused, and where.
 use Rattle.std.specs.Prelude.{◌≡◌, ℕ, ℤ, ◌≤ℤ◌, ◌<ℤ◌, true, false, List, [], ◌∷◌, ◌++◌, length, Some, None, ◌⊎◌}
-use Rattle.names.specs.declared.account.Account.{Account}
-use Rattle.names.specs.declared.party.Party.{Party}
-use Rattle.names.specs.declared.payee.Payee.TheVariants.{Account as ToAccount}
-use Rattle.names.specs.declared.token.Token.{Token}
+use Rattle.contract.specs.Names.declared.account.Account.{Account}
+use Rattle.contract.specs.Names.declared.party.Party.{Party}
+use Rattle.contract.specs.Names.declared.payee.Payee.TheVariants.{Account as ToAccount}
+use Rattle.contract.specs.Names.declared.token.Token.{Token}
 use Rattle.contract.specs.declared.fault.SemFault.{SemFault}
 use Rattle.contract.specs.declared.fault.SemFault.TheVariants as faults
 use Rattle.contract.specs.declared.input.Input.{Input}
 use Rattle.contract.specs.declared.input.Input.TheVariants.{Deposit}
 use Rattle.contract.specs.declared.interval.Interval.{Interval}
 use Rattle.contract.specs.Tree.{ContractTree, CaseTrees, contract_tree, pay, if_obs, when, let_be, assert}
-use Rattle.states.specs.States.{StateMaps}
-use Rattle.evaluation.specs.Evaluation.{eval, visited, looked}
-use Rattle.evaluation.specs.Numbers.{all_fit}
-use Rattle.evaluation.specs.Path.{waits_for}
+use Rattle.contract.specs.States.States.{StateMaps}
+use Rattle.semantics.specs.Evaluation.Evaluation.{eval, visited, looked}
+use Rattle.semantics.specs.Evaluation.Numbers.{all_fit}
+use Rattle.semantics.specs.Evaluation.Path.{waits_for}
 use Rattle.semantics.specs.Walk.{Standing, standing}
 use Rattle.semantics.specs.Reduction.{Quiet, account_of}
 use Rattle.semantics.specs.Applying.{taken_numbers}

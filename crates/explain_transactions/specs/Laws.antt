@@ -4,7 +4,7 @@ use Rattle.contract.specs.declared.fault.SemFault.TheVariants.{NoMatch, Useless}
 use Rattle.contract.specs.declared.input.Input.{Input}
 use Rattle.contract.specs.declared.interval.Interval.{Interval}
 use Rattle.contract.specs.Tree.{ContractTree}
-use Rattle.states.specs.States.{StateMaps}
+use Rattle.contract.specs.States.States.{StateMaps}
 use Rattle.semantics.specs.Walk.{Standing, ended, answer_of}
 use Rattle.semantics.specs.Reduction.{Quiet}
 use Rattle.semantics.specs.Transaction.{trimmed}

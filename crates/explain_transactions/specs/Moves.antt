@@ -4,8 +4,8 @@ use Rattle.std.specs.Prelude.{◌≡◌, ℕ, ℤ, true, List, [], ◌∷◌, ma
 use Rattle.contract.specs.declared.input.Input.{Input}
 use Rattle.contract.specs.declared.interval.Interval.{Interval}
 use Rattle.contract.specs.Tree.{ActionTree, ContractTree}
-use Rattle.evaluation.specs.Numbers.{all_fit}
-use Rattle.evaluation.specs.Path.{waits_for}
+use Rattle.semantics.specs.Evaluation.Numbers.{all_fit}
+use Rattle.semantics.specs.Evaluation.Path.{waits_for}
 use Rattle.semantics.specs.Walk.{Turn, in_case, Standing, standing}
 use Rattle.semantics.specs.Reduction.{Reduction, Reduces, Quiet}
 use Rattle.semantics.specs.Applying.{taken, taken_numbers}

@@ -1,6 +1,6 @@
 -- Worked rows of what stops a transaction, computed on the definitions.
 use Rattle.std.specs.Prelude.{◌≡◌, pos, List, [], ◌∷◌}
-use Rattle.names.specs.Equal.{ada}
+use Rattle.contract.specs.Names.Equal.{ada}
 use Rattle.contract.specs.declared.input.Input.TheVariants.{Notify}
 use Rattle.contract.specs.Tree.{ContractTree, close, when, let_be, constant, no_cases}
 use Rattle.semantics.specs.Walk.{standing}

@@ -1,16 +1,16 @@
 -- No reader needs this file: it serves private functions.
 -- How a walk through a transaction goes on from where it stands, and where it stops.
 use Rattle.std.specs.Prelude.{◌≡◌, ℕ, ℤ, ◌≤ℤ◌, ◌<ℤ◌, int_lt, int_le, ◌<◌, ◌&&◌, if◌then◌else◌, Bool, true, false, List, [], ◌∷◌, ◌++◌, length, Option, Some, None, IsOk, MatchOption, ◌⊎◌}
-use Rattle.names.specs.declared.party.Party.{Party}
-use Rattle.names.specs.declared.payee.Payee.TheVariants.{Account as ToAccount}
-use Rattle.names.specs.declared.token.Token.{Token}
+use Rattle.contract.specs.Names.declared.party.Party.{Party}
+use Rattle.contract.specs.Names.declared.payee.Payee.TheVariants.{Account as ToAccount}
+use Rattle.contract.specs.Names.declared.token.Token.{Token}
 use Rattle.contract.specs.declared.input.Input.{Input}
 use Rattle.contract.specs.declared.input.Input.TheVariants.{Deposit}
 use Rattle.contract.specs.declared.interval.Interval.{Interval}
 use Rattle.contract.specs.Tree.{ActionTree, ContractTree, CaseTrees, contract_tree, pay, when}
-use Rattle.states.specs.States.{StateMaps}
-use Rattle.evaluation.specs.Numbers.{all_fit}
-use Rattle.evaluation.specs.Path.{waits_for}
+use Rattle.contract.specs.States.States.{StateMaps}
+use Rattle.semantics.specs.Evaluation.Numbers.{all_fit}
+use Rattle.semantics.specs.Evaluation.Path.{waits_for}
 use Rattle.semantics.specs.Walk.{Standing, standing, answer_of}
 use Rattle.semantics.specs.Reduction.{Quiet, account_of}
 use Rattle.semantics.specs.Applying.{taken}

@@ -1,11 +1,11 @@
 //! The case that an input takes.
 ghost use Rattle.contract.specs.Tree.{contract_tree};
-ghost use Rattle.evaluation.specs.Path.{waits_for};
+ghost use Rattle.semantics.specs.Evaluation.Path.{waits_for};
 ghost use Rattle.explain_transactions.specs.Support.{IsFound};
 
 use crate::finding::Found;
 use contract::{Input, Interval, State};
-use evaluation::Parts;
+use semantics::evaluation::Parts;
 use semantics::matches;
 
 /// The case that takes an input, of those that the contract at a place waits for; or the one whose numbers leave 128 bits

@@ -1,7 +1,6 @@
 //! Why a transaction is refused.
 use analysis_spec::PathStep;
-use collections::Items;
-use contract::{Party, Token};
+use contract::{Items, Party, Token};
 use trace::Left;
 
 /// Why a transaction is refused, and where (Marlowe specification version 3, "Compute transaction"). Places are paths into the

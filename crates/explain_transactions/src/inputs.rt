@@ -1,7 +1,7 @@
 //! Inputs, each where the contract waits.
 ghost use Rattle.std.specs.Prelude.{◌≡◌, ◌<◌, Some, length, IfOk};
 ghost use Rattle.contract.specs.Tree.{contract_tree};
-ghost use Rattle.evaluation.specs.Path.{waits_for};
+ghost use Rattle.semantics.specs.Evaluation.Path.{waits_for};
 ghost use Rattle.semantics.specs.Reduction.{Quiet};
 ghost use Rattle.next_inputs.specs.Taking.{taken_case};
 ghost use Rattle.explain_transactions.specs.Support.{IsDeposit, TakesOrStops, TakesAndSettles};
@@ -11,9 +11,8 @@ use crate::finding::Found;
 use crate::reductions::settle;
 use crate::stop::Stop;
 use analysis_spec::PathStep;
-use collections::Memory;
-use contract::{Input, Interval, SemFault};
-use evaluation::Parts;
+use contract::{Input, Interval, Memory, SemFault};
+use semantics::evaluation::Parts;
 use semantics::{Log, Plain, take};
 use std::alloc::AllocError;
 use trace::Left;

@@ -1,14 +1,13 @@
 //! Reductions, up to where all is quiet or one can't be made.
 ghost use Rattle.std.specs.Prelude.{◌≡◌, not, true, IfOk, MatchOption};
 ghost use Rattle.contract.specs.Tree.{contract_tree};
-ghost use Rattle.evaluation.specs.Numbers.{all_fit};
+ghost use Rattle.semantics.specs.Evaluation.Numbers.{all_fit};
 ghost use Rattle.explain_transactions.specs.Explained.{own_numbers};
 ghost use Rattle.explain_transactions.specs.Support.{timeout_inside, IsPayment, Stops, HasMoved, is_on, Descends, Settles};
 
 use crate::stop::{Moved, Stop};
-use collections::Memory;
-use contract::{Contract, Interval, Payee, SemFault, State};
-use evaluation::{Form, Parts};
+use contract::{Contract, Interval, Memory, Payee, SemFault, State};
+use semantics::evaluation::{Form, Parts};
 use semantics::{Log, Plain, reduce};
 use std::alloc::AllocError;
 use trace::{Left, Stepped, Stepping, push_step};

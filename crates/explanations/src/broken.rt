@@ -1,9 +1,9 @@
 //! Where a text breaks the form of JSON.
 ghost use Rattle.std.specs.Prelude.{◌≡◌, ◌⊎◌, IfOk};
 
-use collections::Memory;
 use json::{Reader, Scratch, Token};
 use json_tree::{Refusal, from_slice};
+use names::collections::Memory;
 use std::alloc::{AllocError, Global};
 
 /// Why a text is no JSON.

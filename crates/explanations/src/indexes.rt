@@ -2,10 +2,10 @@
 ghost use Rattle.std.specs.Prelude.{◌≡◌, ◌++◌, None, Some, IfOk, OnOk, map, option_map, slice_get, if◌then◌else◌};
 ghost use Rattle.explanations.specs.Indexes as spec;
 
-use collections::Memory;
 use json_forms::key_word;
 use json_stops::Step;
 use json_tree::Json;
+use names::collections::Memory;
 use std::alloc::Global;
 
 /// The index of each member and each item on a path, as far as it leads. Of a key that stands twice it is the last.

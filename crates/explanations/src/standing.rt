@@ -7,8 +7,8 @@ ghost use Rattle.part_tokens.specs.PartTokens.{first_token};
 ghost use Rattle.explanations.specs.Explained.{StandsAt};
 
 use crate::text_lines::behind;
-use collections::Memory;
 use json::{Reader, Scratch, Token};
+use names::collections::Memory;
 use std::alloc::Global;
 
 /// The offset, if the text goes on with the token there, or else the end of the text.

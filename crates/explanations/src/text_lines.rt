@@ -8,8 +8,8 @@ ghost use Rattle.explanations.specs.Explained.{IsToldNoJson, no_json_spelled, to
 
 use crate::broken::{NoJson, first_break};
 use crate::how::How;
-use collections::Memory;
 use json_members::{Count, Spelling, put_first, put_next};
+use names::collections::Memory;
 use std::alloc::Global;
 use text_spots::{spot_at, text_shown};
 use told_parts::{put_spot, put_spot_members};

@@ -1,9 +1,9 @@
 -- Worked rows of the words, computed on the definitions.
 use Rattle.std.specs.Prelude.{◌≡◌, pos, codes}
-use Rattle.names.specs.declared.party.Party.TheVariants.{Address, Role}
-use Rattle.names.specs.Equal.{ada}
+use Rattle.contract.specs.Names.declared.party.Party.TheVariants.{Address, Role}
+use Rattle.contract.specs.Names.Equal.{ada}
 use Rattle.contract.specs.declared.fault.SemFault.TheVariants.{NoMatch}
-use Rattle.eutxo_types.specs.declared.fault.TxFault.TheVariants as rules
+use Rattle.builder_spec.specs.EutxoTypes.declared.fault.TxFault.TheVariants as rules
 use Rattle.builder_spec.specs.declared.fault.BuildFault.TheVariants as causes
 use Rattle.fault_words.specs.Words.{rule_words, build_words, lacking_words}
 

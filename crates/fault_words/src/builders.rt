@@ -5,9 +5,8 @@ ghost use Rattle.fault_words.specs.Words.{build_words, lacking_words};
 
 use crate::words::{beside, missing_among, words};
 use builder_spec::BuildFault;
-use collections::Memory;
+use contract::{Memory, Token};
 use marlowe_refusals::sem_fault_name;
-use names::Token;
 use places::token_text;
 use std::alloc::Global;
 

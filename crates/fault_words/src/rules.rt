@@ -3,8 +3,8 @@ ghost use Rattle.std.specs.Prelude.{◌≡◌, IfOk, string_bytes};
 ghost use Rattle.fault_words.specs.Words.{rule_words};
 
 use crate::words::{around, beside, missing_among, words};
-use collections::Memory;
-use eutxo_types::TxFault;
+use builder_spec::TxFault;
+use contract::Memory;
 use marlowe_refusals::sem_fault_name;
 use places::token_text;
 use std::alloc::Global;

@@ -2,9 +2,8 @@
 ghost use Rattle.std.specs.Prelude.{◌≡◌, ◌++◌, IfOk, codes, string_bytes};
 ghost use Rattle.fault_words.specs.Words.{around, party_text, missing_among};
 
-use collections::Memory;
+use contract::{Memory, Party};
 use json_write_contracts::term_text;
-use names::Party;
 use std::alloc::Global;
 
 pub(crate) fn words(alloc: Global, words: &str) -> Result<String, Memory>

@@ -7,8 +7,8 @@ use Rattle.std.proofs.lemmas.List.Elements.{filter-append}
 use Rattle.std.proofs.lemmas.List.Recursion.{is_count_by}
 use mathlib.Core.List.{IsPrefix}
 use Rattle.ledger.specs.declared.call.Entry.{Entry}
-use Rattle.ledger_spec.specs.Legal.{IsLegal}
-use Rattle.ledger_spec.specs.Replay.{Course, count_of}
+use Rattle.chain_index.specs.LedgerSpec.Legal.{IsLegal}
+use Rattle.chain_index.specs.LedgerSpec.Replay.{Course, count_of}
 use Rattle.hub.specs.declared.answer.Answer.{Answer}
 use Rattle.hub.specs.HubSupport.{SomeOf, Fits, AllFit}
 use Rattle.hub.specs.Seats.{SeatRecord, seat_record, entry_told, entries_told, by_seat, Stand, Rise, Count, AreNumbered, IsHeard, AreHeard, answered}

@@ -3,9 +3,9 @@ use Rattle.std.specs.Prelude.{◌≡◌, ℕ, ◌+◌, ◌≤◌, ◌==◌, List
 use Rattle.ledger.specs.declared.call.Call.{Call}
 use Rattle.ledger.specs.declared.call.Reply.{Reply}
 use Rattle.ledger.specs.declared.call.Entry.{Entry}
-use Rattle.ledger_spec.specs.Calls.{reply_to}
-use Rattle.ledger_spec.specs.Legal.{IsLegal}
-use Rattle.ledger_spec.specs.Replay.{Course, world}
+use Rattle.chain_index.specs.LedgerSpec.Calls.{reply_to}
+use Rattle.chain_index.specs.LedgerSpec.Legal.{IsLegal}
+use Rattle.chain_index.specs.LedgerSpec.Replay.{Course, world}
 use Rattle.hub.specs.declared.answer.Answer.{Answer}
 use Rattle.hub.specs.Session.{Opened}
 

@@ -22,7 +22,7 @@ impl<J: Session> Model for Closed<J> {
     ghost use Rattle.ledger.specs.contracts.ask.Ask as ask_rows;
     ghost use Rattle.ledger.specs.contracts.look.Look as look_rows;
     ghost use Rattle.std.specs.Prelude.{◌≡◌};
-    ghost use Rattle.ledger_spec.specs.Replay.{Course};
+    ghost use Rattle.chain_index.specs.LedgerSpec.Replay.{Course};
 
     ghost Value = { Course };
 

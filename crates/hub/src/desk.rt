@@ -1,9 +1,9 @@
 //! What lies under the lock.
 ghost use Rattle.std.specs.Prelude.{◌≡◌, ◌<◌, ◌++◌, [], ◌∷◌, ℕ, length, IfOk, OnOk, OnErr};
 ghost use Rattle.ledger.specs.declared.call.Call.TheVariants as on;
-ghost use Rattle.ledger_spec.specs.Legal.{IsLegal, entry_of, with_entry};
-ghost use Rattle.ledger_spec.specs.Replay.{world};
-ghost use Rattle.ledger_spec.specs.Views.{pool_front};
+ghost use Rattle.chain_index.specs.LedgerSpec.Legal.{IsLegal, entry_of, with_entry};
+ghost use Rattle.chain_index.specs.LedgerSpec.Replay.{world};
+ghost use Rattle.chain_index.specs.LedgerSpec.Views.{pool_front};
 ghost use Rattle.hub.specs.Seats.{IsReply, WasTold};
 
 use crate::answer::Answer;
@@ -13,10 +13,9 @@ use crate::seat::Seat;
 use crate::session::{Session, Tokens};
 use chain::{Call, Chain, Entry, Reply};
 use collections::Memory;
-use eutxo::{Checked, Resolved};
 use eutxo_types::Tx;
 use journal::Journal;
-use roles::Published;
+use ledger::{Checked, Published, Resolved};
 use std::alloc::Global;
 use std::marker::{Model, PhantomData};
 use std::slice;
@@ -40,7 +39,7 @@ impl<J: Session> Model for Desk<J> {
     ghost use Rattle.eutxo_types.specs.contracts.tx.Tx as txs;
     ghost use Rattle.ledger.specs.contracts.ask.Ask as ask_rows;
     ghost use Rattle.ledger.specs.contracts.look.Look as look_rows;
-    ghost use Rattle.ledger_spec.specs.Replay.{Course};
+    ghost use Rattle.chain_index.specs.LedgerSpec.Replay.{Course};
 
     ghost Value = { Course };
 

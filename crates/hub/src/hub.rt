@@ -1,7 +1,7 @@
 //! The hub.
 ghost use Rattle.std.specs.Prelude.{◌≡◌, ◌<◌, ◌≤◌, ◌↔◌, length, IfOk, OnErr, IsTrue};
 ghost use Rattle.ledger.specs.declared.call.Call.TheVariants as on;
-ghost use Rattle.ledger_spec.specs.Legal.{IsLegal};
+ghost use Rattle.chain_index.specs.LedgerSpec.Legal.{IsLegal};
 ghost use Rattle.hub.specs.HubSupport.{AllFit};
 ghost use Rattle.hub.specs.Seats.{WasTold, AreNumbered, AreHeard, answered};
 
@@ -13,10 +13,9 @@ use crate::seat::Seat;
 use crate::session::{Session, Tokens};
 use chain::{Call, Entry};
 use collections::{Memory, TryClone};
-use eutxo::Checked;
 use journal::Sealed;
+use ledger::{Checked, Published};
 use parallel_check::{Gate, check_all};
-use roles::Published;
 use std::alloc::Global;
 use std::marker::{Model, PhantomData};
 use std::sync::ledger::Share;

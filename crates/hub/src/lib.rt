@@ -19,10 +19,16 @@ mod session;
 
 pub use answer::Answer;
 pub use at_hub::SeatAtHub;
-pub use chain::{Call, Chain, Entry, GenesisFault, Reply, StepRecord};
+pub use chain::{
+    Call, Chain, Checked, CompileFault, Entry, GenesisFault, Lock, Output, OutputRef, Published,
+    Reply, StepRecord, Tx, TxFault, check_owned, publish,
+};
 pub use closed::Closed;
+pub use collections::Memory;
 pub use hub::Hub;
+pub use ledger::{Bundle, Redeemer, Resolved, Scripts, Spend, Validator, Verdict};
 pub use opening::Opening;
+pub use parallel_check::{Gate, NoGate, check_all};
 pub use receipt::Receipt;
 pub use seat::Seat;
 pub use session::{Session, Tokens};

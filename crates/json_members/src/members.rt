@@ -3,7 +3,7 @@ ghost use Rattle.std.specs.Prelude.{◌≡◌, ◌++◌, OnOk, codes};
 ghost use Rattle.serde_json.specs.Written.{compact_text};
 ghost use Rattle.json_members.specs.Members.{member_text, next_text};
 
-use collections::Memory;
+use contract::Memory;
 use json_write_contracts::{Term, term_text};
 use std::alloc::Global;
 

@@ -5,7 +5,7 @@ ghost use Rattle.serde_json.specs.View.{items_of};
 ghost use Rattle.json_write_contracts.specs.Tokens.{Keeps, Puts};
 ghost use Rattle.json_write_contracts.specs.WrittenNames.{number_json};
 
-use collections::Memory;
+use contract::Memory;
 use json::Writer;
 use json_write_contracts::{Term, word};
 use std::alloc::Global;

@@ -6,7 +6,7 @@ use Rattle.std.specs.Cmp.Lexicographic.{slice_cmp}
 use Rattle.serde_json.specs.Data.{Data, null, boolean, number, string, array, object, Items, no_items, item, Members, no_members, member}
 use Rattle.serde_json.specs.Find.{get_member}
 use Rattle.json_read_names.specs.Forms.{contract_form, case_form}
-use Rattle.collections.specs.Answers.{◌>>=◌}
+use Rattle.contract.specs.Collections.Answers.{◌>>=◌}
 use Rattle.json_read_names.specs.Parts.{Reading, ByKey, both_readings, needed, reading_at, time, list, all_items}
 use Rattle.json_read_names.specs.ReadsNames.{party, payee, token}
 use Rattle.json_read_values.specs.ReadsValue.{value}

@@ -7,7 +7,7 @@ use Rattle.contract.specs.declared.tree.Case.{Case}
 use Rattle.contract.specs.declared.tree.Contract.{Contract}
 use Rattle.contract.specs.declared.tree.Contract as contracts
 use Rattle.json_read_names.specs.Forms.{contract_form, case_form}
-use Rattle.collections.specs.Answers.{◌>>=◌}
+use Rattle.contract.specs.Collections.Answers.{◌>>=◌}
 use Rattle.json_read_names.specs.Parts.{Reading, ByKey, reading_at, both_readings, nowhere, text, time, list}
 use Rattle.json_read_names.specs.ReadsNames.{party, token, payee}
 use Rattle.json_read_values.specs.ReadsValue.{value, observation}

@@ -1,9 +1,9 @@
 -- No reader needs this file: it serves private functions. What members stand for two by two, the first before the second.
 use Rattle.std.specs.Prelude.{ℕ, ℤ, List, codes}
 use Rattle.serde_json.specs.Data.{Data}
-use Rattle.names.specs.declared.party.Party.{Party}
-use Rattle.names.specs.declared.payee.Payee.{Payee}
-use Rattle.names.specs.declared.token.Token.{Token}
+use Rattle.contract.specs.Names.declared.party.Party.{Party}
+use Rattle.contract.specs.Names.declared.payee.Payee.{Payee}
+use Rattle.contract.specs.Names.declared.token.Token.{Token}
 use Rattle.contract.specs.declared.value.Value.{Value}
 use Rattle.contract.specs.declared.tree.Contract.{Contract}
 use Rattle.json_read_names.specs.Parts.{Reading, reading_at, both_readings, time}

@@ -1,6 +1,6 @@
 //! Cases and contracts as JSON values.
 ghost use Rattle.std.specs.Prelude.{codes};
-ghost use Rattle.collections.specs.Answers.{Aside};
+ghost use Rattle.contract.specs.Collections.Answers.{Aside};
 ghost use Rattle.json_read_names.specs.Parts.{list, nowhere, reading_at};
 ghost use Rattle.json_read_names.specs.ReadsNames.{token};
 ghost use Rattle.json_read_names.specs.declared.forms.ContractForm.TheVariants.{Pay, When};

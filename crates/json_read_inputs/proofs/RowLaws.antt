@@ -7,17 +7,17 @@ use Rattle.std.specs.declared.cmp.Ordering.{Ordering}
 use Rattle.std.specs.Cmp.{IsTotalOrder, eq_by_cmp_equiv}
 use Rattle.std.specs.Ordering.{eq_by_cmp}
 use Rattle.std.specs.FinMap.{FinMap, IsAntisymmetric, empty, entries, insert, contains_key, from_entries, from_sorted, find, is_sorted, entries-insert, entries-from_sorted, len-entries, len-empty, get-from_entries, get-from_sorted, from_entries_push, same_map}
-use Rattle.names.specs.declared.account.Account.{Account}
-use Rattle.names.specs.declared.token.Token.{Token}
-use Rattle.names.specs.Orders.{account_cmp, token_cmp}
-use Rattle.names.specs.Totals.{account_total, token_total}
-use Rattle.collections.specs.Positive.{AllPositive}
-use Rattle.collections.specs.Repeats.{has_key, has_repeat}
-use Rattle.collections.proofs.Positive.{AllPositive-put}
+use Rattle.contract.specs.Names.declared.account.Account.{Account}
+use Rattle.contract.specs.Names.declared.token.Token.{Token}
+use Rattle.contract.specs.Names.Orders.{account_cmp, token_cmp}
+use Rattle.contract.specs.Names.Totals.{account_total, token_total}
+use Rattle.contract.specs.Collections.Positive.{AllPositive}
+use Rattle.contract.specs.Collections.Repeats.{has_key, has_repeat}
+use Rattle.contract.proofs.FromCollections.Positive.{AllPositive-put}
 use Rattle.serde_json.specs.Data.{Data, Items, no_items, item}
 use Rattle.serde_json.specs.Find.{as_array}
 use Rattle.serde_json.specs.View.{items_of}
-use Rattle.collections.specs.Answers.{◌>>=◌}
+use Rattle.contract.specs.Collections.Answers.{◌>>=◌}
 use Rattle.json_read_names.specs.Parts.{Reading, needed, pair}
 use Rattle.json_read_names.specs.ReadsNames.{token}
 use Rattle.json_read_inputs.specs.ReadsState.{account, account_row_by, amount_row_by, rows_into, rows}

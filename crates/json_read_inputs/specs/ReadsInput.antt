@@ -6,7 +6,7 @@ use Rattle.contract.specs.declared.input.Input.TheVariants as inputs
 use Rattle.contract.specs.declared.interval.Interval.{Interval}
 use Rattle.contract.specs.declared.transaction.Transaction.{Transaction}
 use Rattle.json_read_names.specs.Forms.{has_two, input_form}
-use Rattle.collections.specs.Answers.{◌>>=◌}
+use Rattle.contract.specs.Collections.Answers.{◌>>=◌}
 use Rattle.json_read_names.specs.Parts.{Reading, reading_at, whole_number, time, list}
 use Rattle.json_read_names.specs.ReadsNames.{party, token, choice_id}
 use Rattle.json_read_names.specs.declared.fault.JsonFault.TheVariants.{NoForm}

@@ -4,7 +4,7 @@ use Rattle.std.specs.Fmt.{signed_decimal}
 use Rattle.std.specs.Str.Parse.{signed_digits_value}
 use Rattle.serde_json.specs.Data.{Data}
 use Rattle.serde_json.specs.Find.{as_str}
-use Rattle.names.specs.Equal.{same_text}
+use Rattle.contract.specs.Names.Equal.{same_text}
 use Rattle.json_read_names.specs.Parts.{Reading, whole_number}
 use Rattle.json_read_names.specs.declared.fault.JsonFault.TheVariants.{NoForm}
 

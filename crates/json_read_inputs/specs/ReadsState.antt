@@ -4,13 +4,13 @@ use Rattle.std.specs.declared.cmp.Ordering.{Ordering}
 use Rattle.std.specs.FinMap.{FinMap, empty, contains_key, insert}
 use Rattle.serde_json.specs.Data.{Data, Items, no_items, item}
 use Rattle.serde_json.specs.Find.{as_array}
-use Rattle.names.specs.declared.account.Account.{Account}
-use Rattle.names.specs.declared.token.Token.{Token}
-use Rattle.names.specs.declared.choice_id.ChoiceId.{ChoiceId}
-use Rattle.names.specs.Orders.{bytes_cmp, account_cmp, choice_id_cmp}
-use Rattle.states.specs.States.{StateMaps}
+use Rattle.contract.specs.Names.declared.account.Account.{Account}
+use Rattle.contract.specs.Names.declared.token.Token.{Token}
+use Rattle.contract.specs.Names.declared.choice_id.ChoiceId.{ChoiceId}
+use Rattle.contract.specs.Names.Orders.{bytes_cmp, account_cmp, choice_id_cmp}
+use Rattle.contract.specs.States.States.{StateMaps}
 use Rattle.json_read_names.specs.Forms.{has_two}
-use Rattle.collections.specs.Answers.{◌>>=◌}
+use Rattle.contract.specs.Collections.Answers.{◌>>=◌}
 use Rattle.json_read_names.specs.Parts.{Reading, needed, reading_at, text, whole_number, time, pair}
 use Rattle.json_read_names.specs.ReadsNames.{party, token, choice_id}
 use Rattle.json_read_names.specs.declared.fault.JsonFault.TheVariants.{NoForm, BadState}

@@ -4,7 +4,7 @@ use Rattle.std.specs.Prelude.{ℤ, List, [], ◌∷◌, ◌++◌, Option, Some, 
 use Rattle.std.specs.FinMap.{FinMap}
 use Rattle.serde_json.specs.Data.{Data, Items, no_items, item}
 use Rattle.serde_json.specs.View.{items_of}
-use Rattle.names.specs.Orders.{account_cmp}
+use Rattle.contract.specs.Names.Orders.{account_cmp}
 use Rattle.json_read_names.specs.Parts.{Reading, whole_number}
 use Rattle.json_read_names.specs.declared.fault.JsonFault.{JsonFault}
 use Rattle.json_read_inputs.specs.ReadsNumber.{number_or_text}

@@ -1,9 +1,9 @@
 //! What accounts hold and amounts of tokens as JSON values: all above 0.
 ghost use Rattle.std.specs.Prelude.{IfOk};
 ghost use Rattle.std.specs.FinMap.{from_sorted};
-ghost use Rattle.collections.specs.Answers.{AsideBy};
-ghost use Rattle.collections.specs.Positive.{AllPositive};
-ghost use Rattle.names.specs.Orders.{account_cmp, token_cmp};
+ghost use Rattle.contract.specs.Collections.Answers.{AsideBy};
+ghost use Rattle.contract.specs.Collections.Positive.{AllPositive};
+ghost use Rattle.contract.specs.Names.Orders.{account_cmp, token_cmp};
 ghost use Rattle.json_read_inputs.specs.ReadsState as reads;
 ghost use Rattle.json_read_inputs.specs.Rows.{accounts_by};
 

@@ -1,5 +1,5 @@
 //! Inputs and transactions as JSON values.
-ghost use Rattle.collections.specs.Answers.{Aside};
+ghost use Rattle.contract.specs.Collections.Answers.{Aside};
 ghost use Rattle.json_read_names.specs.Parts.{list};
 ghost use Rattle.json_read_inputs.specs.ReadsInput as reads;
 

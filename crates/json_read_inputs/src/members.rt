@@ -2,8 +2,8 @@
 ghost use Rattle.std.specs.Prelude.{IfOk};
 ghost use Rattle.std.proofs.Math.Dec.{T};
 ghost use Rattle.std.specs.FinMap.{from_sorted, is_sorted};
-ghost use Rattle.collections.specs.Answers.{Aside, AsideBy};
-ghost use Rattle.collections.specs.Positive.{AllPositive};
+ghost use Rattle.contract.specs.Collections.Answers.{Aside, AsideBy};
+ghost use Rattle.contract.specs.Collections.Positive.{AllPositive};
 ghost use Rattle.json_read_names.specs.Parts.{reading_at, time, whole_number};
 ghost use Rattle.json_read_names.specs.ReadsNames.{choice_id, party, token};
 ghost use Rattle.json_read_inputs.specs.ReadsState as reads;

@@ -1,5 +1,5 @@
 //! Numbers of rows: whole ones, or also texts of their digits.
-ghost use Rattle.collections.specs.Answers.{Aside};
+ghost use Rattle.contract.specs.Collections.Answers.{Aside};
 ghost use Rattle.json_read_inputs.specs.ReadsNumber.{number_of_text};
 ghost use Rattle.json_read_inputs.specs.Rows.{number_by};
 

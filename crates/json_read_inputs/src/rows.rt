@@ -2,8 +2,8 @@
 ghost use Rattle.std.specs.Prelude.{◌≡◌, ℤ, map, IfOk, IfErr};
 ghost use Rattle.std.proofs.Math.Dec.{T};
 ghost use Rattle.std.specs.FinMap.{IsAntisymmetric, from_sorted, is_sorted};
-ghost use Rattle.collections.specs.Answers.{Aside, AsideBy};
-ghost use Rattle.names.proofs.Exact.{bytes_exact, token_exact, account_exact, choice_id_exact};
+ghost use Rattle.contract.specs.Collections.Answers.{Aside, AsideBy};
+ghost use Rattle.contract.proofs.FromNames.Exact.{bytes_exact, token_exact, account_exact, choice_id_exact};
 ghost use Rattle.serde_json.specs.Data.{Data};
 ghost use Rattle.json_read_names.specs.Parts.{Reading};
 ghost use Rattle.json_read_names.specs.declared.fault.JsonFault.TheVariants as faults;

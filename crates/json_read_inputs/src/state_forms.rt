@@ -1,5 +1,5 @@
 //! States as JSON values.
-ghost use Rattle.collections.specs.Answers.{Aside};
+ghost use Rattle.contract.specs.Collections.Answers.{Aside};
 ghost use Rattle.json_read_inputs.specs.ReadsState as reads;
 ghost use Rattle.json_read_inputs.specs.Rows.{number_by};
 

@@ -5,7 +5,7 @@ use Rattle.serde_json.specs.Data.{Num, unsigned, negative, float, Data, Items, n
 use Rattle.serde_json.specs.Find.{get, as_str, as_array, as_number, as_integer}
 use Rattle.hex.specs.Hex.{decode_of}
 use Rattle.hex.specs.declared.error.FromHexError.{FromHexError}
-use Rattle.collections.specs.Answers.{◌>>=◌}
+use Rattle.names.specs.Collections.Answers.{◌>>=◌}
 use Rattle.json_read_names.specs.declared.fault.JsonFault.{JsonFault}
 use Rattle.json_read_names.specs.declared.fault.JsonFault.TheVariants as faults
 

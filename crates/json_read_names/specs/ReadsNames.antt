@@ -9,7 +9,7 @@ use Rattle.names.specs.declared.payee.Payee.{Payee}
 use Rattle.names.specs.declared.payee.Payee.TheVariants as payees
 use Rattle.names.specs.declared.bound.Bound.{Bound}
 use Rattle.json_read_names.specs.Forms.{has, has_two}
-use Rattle.collections.specs.Answers.{◌>>=◌}
+use Rattle.names.specs.Collections.Answers.{◌>>=◌}
 use Rattle.json_read_names.specs.Parts.{Reading, of_one, reading_at, text, bytes, whole_number}
 use Rattle.json_read_names.specs.declared.fault.JsonFault.TheVariants.{NoForm}
 

@@ -4,7 +4,7 @@ use Rattle.std.specs.Str.{is_utf8}
 use Rattle.serde_json.specs.Data.{Data}
 use Rattle.serde_json.specs.Read.{read}
 use Rattle.json_tree.specs.View.{read_within}
-use Rattle.collections.specs.Answers.{◌>>=◌}
+use Rattle.names.specs.Collections.Answers.{◌>>=◌}
 use Rattle.json_read_names.specs.Parts.{Reading}
 use Rattle.json_read_names.specs.declared.fault.JsonFault.TheVariants.{NotJson, TooLong}
 

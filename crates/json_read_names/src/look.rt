@@ -1,13 +1,13 @@
 //! Looking into JSON values.
 ghost use Rattle.std.specs.Prelude.{◌≡◌, ◌<◌, Ok, IfOk};
-ghost use Rattle.collections.specs.Answers.{Aside, AsideBy};
+ghost use Rattle.names.specs.Collections.Answers.{Aside, AsideBy};
 ghost use Rattle.serde_json.specs.Data.{depth};
 ghost use Rattle.json_read_names.specs.Forms.{has, has_two, has_three, is_number, is_word};
 ghost use Rattle.json_read_names.specs.Parts.{both_readings, member_at, pair, text, bytes};
 
 use crate::fault::JsonFault;
-use collections::{Bytes, Text};
 use json_tree::JsonValue;
+use names::collections::{Bytes, Text};
 use std::alloc::Global;
 
 /// Whether this is an object that has the key.

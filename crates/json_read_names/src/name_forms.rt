@@ -1,5 +1,5 @@
 //! Parties, tokens, choice ids, payees and bounds as JSON values.
-ghost use Rattle.collections.specs.Answers.{Aside};
+ghost use Rattle.names.specs.Collections.Answers.{Aside};
 ghost use Rattle.json_read_names.specs.ReadsNames as reads;
 
 use crate::fault::JsonFault;

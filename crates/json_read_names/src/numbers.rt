@@ -1,5 +1,5 @@
 //! Whole numbers and times as JSON values.
-ghost use Rattle.collections.specs.Answers.{Aside};
+ghost use Rattle.names.specs.Collections.Answers.{Aside};
 ghost use Rattle.json_read_names.specs.Parts.{whole_number, time};
 
 use crate::fault::JsonFault;

@@ -1,6 +1,6 @@
 //! From a text to its JSON value.
 ghost use Rattle.std.specs.Prelude.{Ok};
-ghost use Rattle.collections.specs.Answers.{AsideBy};
+ghost use Rattle.names.specs.Collections.Answers.{AsideBy};
 ghost use Rattle.json_tree.specs.View.{view};
 ghost use Rattle.json_read_names.specs.ReadsText.{json_of, json_within};
 

@@ -1,10 +1,10 @@
 -- Lists of items that have names: the place of a name, a name that is new, and items that are read one by one, each beside those
 -- before it.
 use Rattle.std.specs.Prelude.{ℕ, ◌+◌, List, [], ◌∷◌, ◌++◌, Option, Some, None, Ok, Err, is_some, option_map, if◌then◌else◌}
-use Rattle.names.specs.Equal.{same_text}
+use Rattle.contract.specs.Names.Equal.{same_text}
 use Rattle.serde_json.specs.Data.{Data, Items, no_items, item}
 use Rattle.serde_json.specs.Find.{as_array}
-use Rattle.collections.specs.Answers.{◌>>=◌}
+use Rattle.contract.specs.Collections.Answers.{◌>>=◌}
 use Rattle.json_read_names.specs.Parts.{Reading, needed, text}
 use Rattle.json_read_names.specs.declared.fault.JsonFault.TheVariants.{NoForm}
 

@@ -9,7 +9,7 @@ use Rattle.plans.specs.declared.intent.Intent.TheVariants as intents
 use Rattle.plans.specs.declared.plan.Plan.{Plan}
 use Rattle.plans.specs.declared.scenario.NamedContract.{NamedContract}
 use Rattle.plans.specs.declared.scenario.NamedThread.{NamedThread}
-use Rattle.collections.specs.Answers.{◌>>=◌}
+use Rattle.contract.specs.Collections.Answers.{◌>>=◌}
 use Rattle.json_read_names.specs.Forms.{has, has_two}
 use Rattle.json_read_names.specs.Parts.{Reading, ByKey, needed, reading_at, text, time, list}
 use Rattle.json_read_names.specs.declared.fault.JsonFault.{JsonFault}

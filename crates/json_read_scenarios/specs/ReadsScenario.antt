@@ -2,13 +2,13 @@
 use Rattle.std.specs.Prelude.{List, ◌&&◌, Ok, Err, codes, if◌then◌else◌}
 use Rattle.std.specs.FinMap.{empty}
 use Rattle.serde_json.specs.Data.{Data}
-use Rattle.names.specs.Orders.{account_cmp, token_cmp}
-use Rattle.states.specs.States.{StateMaps}
+use Rattle.contract.specs.Names.Orders.{account_cmp, token_cmp}
+use Rattle.contract.specs.States.States.{StateMaps}
 use Rattle.plans.specs.declared.scenario.Funds.{Funds}
 use Rattle.plans.specs.declared.scenario.NamedContract.{NamedContract}
 use Rattle.plans.specs.declared.scenario.NamedThread.{NamedThread}
 use Rattle.plans.specs.declared.scenario.Scenario.{Scenario}
-use Rattle.collections.specs.Answers.{◌>>=◌}
+use Rattle.contract.specs.Collections.Answers.{◌>>=◌}
 use Rattle.json_read_names.specs.Forms.{has_two, has_three}
 use Rattle.json_read_names.specs.Parts.{Reading, reading_at, text, bytes, time, list}
 use Rattle.json_read_names.specs.declared.fault.JsonFault.TheVariants.{NoForm}

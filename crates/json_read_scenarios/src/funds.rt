@@ -1,6 +1,6 @@
 //! What addresses have when a ledger begins as JSON values.
-ghost use Rattle.collections.specs.Answers.{Aside};
-ghost use Rattle.names.specs.Orders.{token_cmp};
+ghost use Rattle.contract.specs.Collections.Answers.{Aside};
+ghost use Rattle.contract.specs.Names.Orders.{token_cmp};
 ghost use Rattle.json_read_names.specs.Parts.{list, reading_at};
 ghost use Rattle.json_read_inputs.specs.ReadsState.{amount_row, rows};
 ghost use Rattle.json_read_scenarios.specs.ReadsScenario as reads;

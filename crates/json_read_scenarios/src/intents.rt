@@ -1,6 +1,6 @@
 //! Intents as JSON values.
 ghost use Rattle.std.specs.Prelude.{[], codes};
-ghost use Rattle.collections.specs.Answers.{Aside};
+ghost use Rattle.contract.specs.Collections.Answers.{Aside};
 ghost use Rattle.json_read_names.specs.Parts.{list, reading_at};
 ghost use Rattle.json_read_inputs.specs.ReadsInput.{input};
 ghost use Rattle.json_read_scenarios.specs.ReadsPlan as reads;

@@ -1,5 +1,5 @@
 //! Lists, item by item.
-ghost use Rattle.collections.specs.Answers.{Aside};
+ghost use Rattle.contract.specs.Collections.Answers.{Aside};
 ghost use Rattle.serde_json.specs.Data.{Data};
 ghost use Rattle.json_read_names.specs.Parts.{Reading, list, reading_at};
 

@@ -1,5 +1,5 @@
 //! What the members at keys stand for.
-ghost use Rattle.collections.specs.Answers.{Aside};
+ghost use Rattle.contract.specs.Collections.Answers.{Aside};
 ghost use Rattle.json_read_names.specs.Parts.{bytes, reading_at, text, time};
 
 use contract::{Bytes, Text};

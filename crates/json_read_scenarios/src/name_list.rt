@@ -1,6 +1,6 @@
 //! Items by their names.
 ghost use Rattle.std.specs.Prelude.{◌≡◌, ℕ, List, [], ◌∷◌, ◌++◌, length, None, IfOk};
-ghost use Rattle.collections.specs.Answers.{Aside};
+ghost use Rattle.contract.specs.Collections.Answers.{Aside};
 ghost use Rattle.serde_json.specs.Data.{Data};
 ghost use Rattle.json_read_names.specs.Parts.{Reading, reading_at};
 ghost use Rattle.json_read_scenarios.specs.Names.{place_of, known, new_name, list_in_turn};

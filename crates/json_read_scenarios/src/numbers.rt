@@ -1,5 +1,5 @@
 //! Numbers of intents and plans, and members that may be left out.
-ghost use Rattle.collections.specs.Answers.{Aside};
+ghost use Rattle.contract.specs.Collections.Answers.{Aside};
 ghost use Rattle.json_read_scenarios.specs.ReadsPlan.{natural, count, workers, calls, truth, if_there};
 
 use json_read_names::JsonFault;

@@ -1,6 +1,6 @@
 //! Plans as JSON values.
 ghost use Rattle.std.specs.Prelude.{◌≡◌, None, IfOk};
-ghost use Rattle.collections.specs.Answers.{Aside};
+ghost use Rattle.contract.specs.Collections.Answers.{Aside};
 ghost use Rattle.json_read_names.specs.Parts.{list, reading_at, text};
 ghost use Rattle.json_read_scenarios.specs.Names.{place_of, list_in_turn};
 ghost use Rattle.json_read_scenarios.specs.ReadsPlan as reads;

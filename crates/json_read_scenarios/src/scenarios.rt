@@ -1,6 +1,6 @@
 //! Scenarios as JSON values and as texts.
 ghost use Rattle.std.specs.Prelude.{IfOk};
-ghost use Rattle.collections.specs.Answers.{Aside};
+ghost use Rattle.contract.specs.Collections.Answers.{Aside};
 ghost use Rattle.json_read_names.specs.ReadsText.{of_text, of_text_within};
 ghost use Rattle.json_read_scenarios.specs.Named.{NamesWhatItHas};
 ghost use Rattle.json_read_scenarios.specs.ReadsScenario as reads;

@@ -3,7 +3,7 @@ use Rattle.std.proofs.Common.{◌≡◌, ◌≢◌, ℕ, ◌+◌, ◌<◌, ◌�
 use Rattle.std.specs.Prelude.{flat_map, Vec}
 use Rattle.std.specs.declared.alloc.Global.{Global}
 use Rattle.std.proofs.lemmas.List.{at_drop_more, at_drop_all}
-use Rattle.collections.specs.Answers.{◌>>=◌}
+use Rattle.contract.specs.Collections.Answers.{◌>>=◌}
 use Rattle.contract.specs.declared.transaction.Transaction.{Transaction}
 use Rattle.json_read_names.specs.Parts.{Reading}
 use Rattle.json_read_names.specs.ReadsText.{json_of}

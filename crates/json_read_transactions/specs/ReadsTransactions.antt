@@ -1,7 +1,7 @@
 -- Which transactions texts stand for, one text behind the other.
 use Rattle.std.specs.Prelude.{◌≡◌, ℕ, suc, nat_lt, Bool, not, ◌||◌, ◌==◌, List, [], ◌∷◌, map, filter, flat_map, Option, Some, None, Result, Ok, Err, if◌then◌else◌}
 use Rattle.std.specs.List.{list_all, slice_split}
-use Rattle.collections.specs.Answers.{◌>>=◌}
+use Rattle.contract.specs.Collections.Answers.{◌>>=◌}
 use Rattle.contract.specs.declared.transaction.Transaction.{Transaction}
 use Rattle.serde_json.specs.Data.{Data, Items, no_items, item}
 use Rattle.serde_json.specs.Find.{as_array}

@@ -2,7 +2,7 @@
 -- Transactions that are read behind others.
 use Rattle.std.specs.Prelude.{◌≡◌, ◌≢◌, ℕ, List, [], ◌∷◌, ◌++◌, length, Result, Ok, Err, MatchResult, if◌then◌else◌}
 use Rattle.std.specs.List.{list_all}
-use Rattle.collections.specs.Answers.{◌>>=◌}
+use Rattle.contract.specs.Collections.Answers.{◌>>=◌}
 use Rattle.contract.specs.declared.transaction.Transaction.{Transaction}
 use Rattle.json_read_names.specs.Parts.{Reading}
 use Rattle.json_read_names.specs.ReadsText.{of_text}

@@ -1,7 +1,7 @@
 //! A transaction on each line of a text.
 ghost use Rattle.std.specs.Prelude.{◌≡◌, ◌==◌, map, position};
 ghost use Rattle.std.specs.List.{list_all};
-ghost use Rattle.collections.specs.Answers.{Aside};
+ghost use Rattle.contract.specs.Collections.Answers.{Aside};
 ghost use Rattle.json_read_names.specs.ReadsText.{of_text};
 ghost use Rattle.json_read_inputs.specs.ReadsInput.{transaction};
 ghost use Rattle.json_read_transactions.specs.ReadsTransactions.{is_blank, lines};

@@ -1,6 +1,6 @@
 //! One reading behind the transactions so far.
 ghost use Rattle.std.specs.Prelude.{◌≡◌, [], ◌∷◌};
-ghost use Rattle.collections.specs.Answers.{Aside};
+ghost use Rattle.contract.specs.Collections.Answers.{Aside};
 ghost use Rattle.contract.specs.declared.transaction.Transaction.{Transaction};
 ghost use Rattle.json_read_names.specs.Parts.{Reading};
 ghost use Rattle.json_read_names.specs.declared.fault.JsonFault.TheVariants as json;

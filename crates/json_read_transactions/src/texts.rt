@@ -1,6 +1,6 @@
 //! The transactions of texts.
 ghost use Rattle.std.specs.Prelude.{◌≡◌, ◌≢◌, map, Err};
-ghost use Rattle.collections.specs.Answers.{Aside};
+ghost use Rattle.contract.specs.Collections.Answers.{Aside};
 ghost use Rattle.serde_json.specs.View.{items_of};
 ghost use Rattle.json_read_names.specs.ReadsText.{json_of};
 ghost use Rattle.json_read_transactions.specs.ReadsTransactions.{item_readings, readings, value_readings, transactions_of};

@@ -4,7 +4,7 @@ use Rattle.std.specs.Prelude.{codes}
 use Rattle.serde_json.specs.Data.{Data}
 use Rattle.contract.specs.declared.tree.Action.TheVariants as actions
 use Rattle.json_read_names.proofs.ListLaws.{then_two}
-use Rattle.collections.specs.Answers.{◌>>=◌}
+use Rattle.contract.specs.Collections.Answers.{◌>>=◌}
 use Rattle.json_read_names.specs.Parts.{both_readings, reading_at}
 use Rattle.json_read_names.specs.ReadsNames.{party, token}
 use Rattle.json_read_names.specs.declared.forms.ActionForm.TheVariants.{Deposit}

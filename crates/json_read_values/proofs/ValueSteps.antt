@@ -5,7 +5,7 @@ use Rattle.std.specs.Cmp.Lexicographic.{slice_cmp}
 use Rattle.serde_json.specs.Data.{Data, null, boolean, number, string, array, object, Members, no_members, member}
 use Rattle.serde_json.specs.Find.{get_member}
 use Rattle.json_read_names.specs.Forms.{value_form, observation_form}
-use Rattle.collections.specs.Answers.{◌>>=◌}
+use Rattle.contract.specs.Collections.Answers.{◌>>=◌}
 use Rattle.json_read_names.specs.Parts.{needed, reading_at}
 use Rattle.json_read_names.proofs.ListLaws.{read_found}
 use Rattle.json_read_values.specs.ReadsValue.{value_by, observation_by, value, value_in, observation, observation_in}

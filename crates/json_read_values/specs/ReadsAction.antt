@@ -4,7 +4,7 @@ use Rattle.serde_json.specs.Data.{Data}
 use Rattle.contract.specs.declared.tree.Action.{Action}
 use Rattle.contract.specs.declared.tree.Action.TheVariants as actions
 use Rattle.json_read_names.specs.Forms.{action_form}
-use Rattle.collections.specs.Answers.{◌>>=◌}
+use Rattle.contract.specs.Collections.Answers.{◌>>=◌}
 use Rattle.json_read_names.specs.Parts.{Reading, reading_at, of_one, list}
 use Rattle.json_read_names.specs.ReadsNames.{party, token, choice_id, bound}
 use Rattle.json_read_names.specs.declared.fault.JsonFault.TheVariants.{NoForm}

@@ -9,7 +9,7 @@ use Rattle.contract.specs.declared.value.Value as values
 use Rattle.contract.specs.declared.value.Observation.{Observation}
 use Rattle.contract.specs.declared.value.Observation as observations
 use Rattle.json_read_names.specs.Forms.{value_form, observation_form}
-use Rattle.collections.specs.Answers.{◌>>=◌}
+use Rattle.contract.specs.Collections.Answers.{◌>>=◌}
 use Rattle.json_read_names.specs.Parts.{Reading, ByKey, reading_at, both_readings, of_one, of_two, nowhere, text, whole_number}
 use Rattle.json_read_names.specs.ReadsNames.{party, token, choice_id}
 use Rattle.json_read_names.specs.declared.fault.JsonFault.TheVariants.{NoForm}

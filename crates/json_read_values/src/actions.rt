@@ -1,5 +1,5 @@
 //! Actions as JSON values.
-ghost use Rattle.collections.specs.Answers.{Aside};
+ghost use Rattle.contract.specs.Collections.Answers.{Aside};
 ghost use Rattle.json_read_names.specs.Parts.{list};
 ghost use Rattle.json_read_names.specs.ReadsNames.{bound};
 ghost use Rattle.json_read_names.specs.declared.forms.ActionForm.TheVariants.{Deposit};

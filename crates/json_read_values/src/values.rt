@@ -1,5 +1,5 @@
 //! Values and observations as JSON values.
-ghost use Rattle.collections.specs.Answers.{Aside};
+ghost use Rattle.contract.specs.Collections.Answers.{Aside};
 ghost use Rattle.json_read_names.specs.Parts.{reading_at};
 ghost use Rattle.json_read_values.specs.ReadsValue as reads;
 ghost use Rattle.json_read_values.specs.ReadsSupport.{values_at, observations_at};

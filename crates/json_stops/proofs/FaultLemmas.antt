@@ -4,20 +4,20 @@ use Rattle.std.specs.Prelude.{◌&&◌, codes, int_lt, if◌then◌else◌}
 use Rattle.std.specs.FinMap.{FinMap}
 use Rattle.serde_json.specs.Data.{Data}
 use Rattle.serde_json.specs.Find.{get, as_array}
-use Rattle.names.specs.declared.party.Party.{Party}
-use Rattle.names.specs.declared.party.Party.TheVariants as parties
-use Rattle.names.specs.declared.token.Token.{Token}
-use Rattle.names.specs.declared.account.Account.{Account}
-use Rattle.names.specs.declared.choice_id.ChoiceId.{ChoiceId}
-use Rattle.names.specs.Orders.{bytes_cmp, account_cmp, choice_id_cmp, token_cmp}
-use Rattle.names.specs.Totals.{bytes_total, account_total, choice_id_total, token_total}
-use Rattle.states.specs.States.{StateMaps}
-use Rattle.names.specs.declared.bound.Bound.{Bound}
+use Rattle.contract.specs.Names.declared.party.Party.{Party}
+use Rattle.contract.specs.Names.declared.party.Party.TheVariants as parties
+use Rattle.contract.specs.Names.declared.token.Token.{Token}
+use Rattle.contract.specs.Names.declared.account.Account.{Account}
+use Rattle.contract.specs.Names.declared.choice_id.ChoiceId.{ChoiceId}
+use Rattle.contract.specs.Names.Orders.{bytes_cmp, account_cmp, choice_id_cmp, token_cmp}
+use Rattle.contract.specs.Names.Totals.{bytes_total, account_total, choice_id_total, token_total}
+use Rattle.contract.specs.States.States.{StateMaps}
+use Rattle.contract.specs.Names.declared.bound.Bound.{Bound}
 use Rattle.contract.specs.declared.input.Input.{Input}
 use Rattle.contract.specs.declared.interval.Interval.{Interval}
 use Rattle.contract.specs.declared.transaction.Transaction.{Transaction}
-use Rattle.names.specs.declared.payee.Payee.TheVariants as payees
-use Rattle.collections.specs.Answers.{◌>>=◌}
+use Rattle.contract.specs.Names.declared.payee.Payee.TheVariants as payees
+use Rattle.contract.specs.Collections.Answers.{◌>>=◌}
 use Rattle.json_read_names.specs.Forms.{has, has_two, contract_form, case_form, action_form, value_form, observation_form, input_form}
 use Rattle.json_read_names.specs.Parts.{Reading, reading_at, of_one, text, bytes, whole_number, time, list, pair}
 use Rattle.json_read_names.specs.ReadsNames.{party, token, choice_id, bound}

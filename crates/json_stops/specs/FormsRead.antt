@@ -2,7 +2,7 @@
 -- itself.
 use Rattle.std.specs.Prelude.{ℤ, pos, int_lt, Bool, ◌&&◌, List, [], Ok, Err, codes, if◌then◌else◌}
 use Rattle.serde_json.specs.Data.{Data}
-use Rattle.collections.specs.Answers.{◌>>=◌}
+use Rattle.contract.specs.Collections.Answers.{◌>>=◌}
 use Rattle.json_read_names.specs.Forms.{has, has_two, contract_form, case_form, action_form, value_form, observation_form, input_form}
 use Rattle.json_read_names.specs.Parts.{Reading, of_one, text, bytes, whole_number, time}
 use Rattle.json_read_names.specs.declared.fault.JsonFault.TheVariants as faults

@@ -3,7 +3,7 @@ use Rattle.std.specs.Prelude.{◌≡◌, ℕ, ◌+◌, List, [], ◌∷◌, Opti
 use Rattle.std.specs.List.{find}
 use Rattle.serde_json.specs.Data.{Data, Items, no_items, item}
 use Rattle.serde_json.specs.Find.{get, as_array}
-use Rattle.names.specs.Orders.{bytes_cmp, account_cmp, choice_id_cmp, token_cmp}
+use Rattle.contract.specs.Names.Orders.{bytes_cmp, account_cmp, choice_id_cmp, token_cmp}
 use Rattle.json_read_names.specs.Parts.{Reading, text, bytes, whole_number, time, list, pair}
 use Rattle.json_read_names.specs.ReadsNames.{party, token, choice_id, payee, bound}
 use Rattle.json_read_names.specs.declared.fault.JsonFault.{JsonFault}

@@ -1,6 +1,6 @@
 //! The keys that are read of a JSON value.
 ghost use Rattle.std.specs.Prelude.{◌≡◌, ◌&&◌, codes};
-ghost use Rattle.collections.specs.Answers.{AsideBy};
+ghost use Rattle.contract.specs.Collections.Answers.{AsideBy};
 ghost use Rattle.json_read_names.specs.Forms.{has_two};
 ghost use Rattle.json_read_names.specs.Parts.{text, bytes, whole_number, time};
 ghost use Rattle.json_stops.specs.FormsRead as read;

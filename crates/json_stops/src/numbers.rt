@@ -1,5 +1,5 @@
 //! The numbers of a state.
-ghost use Rattle.collections.specs.Answers.{Aside};
+ghost use Rattle.contract.specs.Collections.Answers.{Aside};
 ghost use Rattle.json_read_inputs.specs.ReadsNumber.{number_of_text};
 ghost use Rattle.json_stops.specs.FormsRead.{number};
 

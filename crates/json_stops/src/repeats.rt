@@ -1,6 +1,6 @@
 //! Entries of a list whose key an earlier one has.
 ghost use Rattle.std.specs.Prelude.{◌≡◌, IfOk, map};
-ghost use Rattle.collections.specs.Answers.{Aside};
+ghost use Rattle.contract.specs.Collections.Answers.{Aside};
 ghost use Rattle.serde_json.specs.Data.{Data};
 ghost use Rattle.serde_json.specs.View.{items_of};
 ghost use Rattle.json_read_names.specs.Parts.{Reading, text};
@@ -8,13 +8,12 @@ ghost use Rattle.json_read_names.specs.ReadsNames.{choice_id, token};
 ghost use Rattle.json_read_inputs.specs.ReadsState.{account};
 ghost use Rattle.json_stops.specs.Repeats as spec;
 
-use collections::{Memory, Text};
+use contract::{Account, ChoiceId, Memory, Text, Token};
 use json_forms::Sort;
 use json_read_names::{
     JsonFault, choice_id_from_json, pair, party_from_json, read_text, token_from_json,
 };
 use json_tree::JsonValue;
-use names::{Account, ChoiceId, Token};
 use std::alloc::{AllocError, Global};
 use std::collections::BTreeMap;
 

@@ -8,7 +8,7 @@ ghost use Rattle.json_stops.specs.StopsSupport.{at_itself, place_back, under};
 use crate::fields::{Shape, fields_read, shape_of};
 use crate::repeats::{earlier, repeat_in};
 use crate::stop::{Step, Stop};
-use collections::Memory;
+use contract::Memory;
 use json_forms::{Key, Sort, key_word};
 use json_read_names::JsonFault;
 use json_tree::JsonValue;

@@ -2,9 +2,9 @@
 use Rattle.std.proofs.Common.{◌≡◌, ℕ, ℤ, true, false, ◌&&◌, Bool, List, ap, refl, ◌∙◌}
 use Rattle.std.specs.Prelude.{codes}
 use Rattle.serde_json.specs.Data.{boolean, string}
-use Rattle.names.specs.declared.party.Party.{Party}
-use Rattle.names.specs.declared.token.Token.{Token}
-use Rattle.names.specs.declared.choice_id.ChoiceId.{ChoiceId}
+use Rattle.contract.specs.Names.declared.party.Party.{Party}
+use Rattle.contract.specs.Names.declared.token.Token.{Token}
+use Rattle.contract.specs.Names.declared.choice_id.ChoiceId.{ChoiceId}
 use Rattle.contract.specs.declared.value.Value.{Value}
 use Rattle.contract.specs.declared.value.Value as values
 use Rattle.contract.specs.declared.value.Observation.{Observation}

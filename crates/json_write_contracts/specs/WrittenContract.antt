@@ -4,7 +4,7 @@ use Rattle.std.specs.Prelude.{map, Bool, true, ◌&&◌, codes}
 use Rattle.std.specs.List.{list_all}
 use Rattle.serde_json.specs.Data.{Data, string, array, Items, no_items, item}
 use Rattle.serde_json.specs.View.{items_of}
-use Rattle.names.specs.declared.bound.Bound.{Bound}
+use Rattle.contract.specs.Names.declared.bound.Bound.{Bound}
 use Rattle.contract.specs.Tree.{ActionTree, deposit, choice, notify, ContractTree, close, pay, if_obs, when, let_be, assert, CaseTrees, no_cases, case_then}
 use Rattle.json_write_contracts.specs.WrittenNames.{one, two, three, four, five, number_json, number_fits, time_fits, party_json, token_json, choice_id_json, payee_json}
 use Rattle.json_write_contracts.specs.WrittenValues.{value_json, observation_json, value_fits, observation_fits}

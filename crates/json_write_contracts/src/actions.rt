@@ -18,10 +18,8 @@ use crate::members::{end_object, end_with_one, end_with_three};
 use crate::name_forms::symbol_is_bytes;
 use crate::numbers::put_number;
 use crate::values::{put_observation, put_value};
-use collections::Items;
-use contract::{Action, Observation, Value};
+use contract::{Action, Bound, ChoiceId, Items, Observation, Party, Token, Value};
 use json::Writer;
-use names::{Bound, ChoiceId, Party, Token};
 use std::alloc::Global;
 
 // A member that is a number.

@@ -15,10 +15,8 @@ use crate::members::{begin_with, end_object, end_with_two, put_member, put_term}
 use crate::name_forms::symbol_is_bytes;
 use crate::numbers::is_time;
 use crate::values::{put_observation, put_value};
-use collections::{Boxed, Items, Text};
-use contract::{Case, Contract, Observation, Value};
+use contract::{Boxed, Case, Contract, Items, Observation, Party, Payee, Text, Token, Value};
 use json::Writer;
-use names::{Party, Payee, Token};
 use std::alloc::Global;
 
 /// Writes a contract: compact, with each object's keys in the order of their bytes. A number in it that doesn't lie

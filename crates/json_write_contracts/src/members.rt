@@ -9,7 +9,7 @@ ghost use Rattle.json_write_contracts.specs.WrittenNames as written_names;
 
 use crate::fault::WriteFault;
 use crate::terms::Term;
-use collections::Memory;
+use contract::Memory;
 use json::Writer;
 use std::alloc::Global;
 

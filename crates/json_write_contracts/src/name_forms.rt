@@ -7,9 +7,8 @@ ghost use Rattle.json_write_contracts.specs.Members.{Ends};
 ghost use Rattle.json_write_contracts.specs.Tokens.{Keeps, Puts};
 ghost use Rattle.json_write_contracts.specs.WrittenNames as written_names;
 
-use collections::{Bytes, Memory, Text};
+use contract::{Bytes, ChoiceId, Memory, Party, Payee, Text, Token};
 use json::Writer;
-use names::{ChoiceId, Party, Payee, Token};
 use std::alloc::Global;
 
 /// Writes a text.

@@ -5,7 +5,7 @@ ghost use Rattle.json_write_contracts.specs.Tokens.{Keeps, Puts, PutsFitting};
 ghost use Rattle.json_write_contracts.specs.WrittenNames.{number_json, wide_json, number_fits, time_fits};
 
 use crate::fault::WriteFault;
-use collections::Memory;
+use contract::Memory;
 use json::Writer;
 use std::alloc::Global;
 

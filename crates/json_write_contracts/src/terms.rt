@@ -9,9 +9,8 @@ ghost use Rattle.json_write_contracts.specs.WrittenNames as written_names;
 use crate::members::put_pair;
 use crate::name_forms::{put_bytes, put_choice_id, put_party, put_payee, put_text, put_token};
 use crate::numbers::{put_amount, put_time};
-use collections::{Bytes, Memory, Text};
+use contract::{Account, Bytes, ChoiceId, Memory, Party, Payee, Text, Token};
 use json::Writer;
-use names::{Account, ChoiceId, Party, Payee, Token};
 use std::alloc::Global;
 
 /// What is written as one JSON value, in the form in which it is read.

@@ -13,10 +13,8 @@ use crate::fault::WriteFault;
 use crate::members::{end_object, end_with_two, put_one, put_term};
 use crate::name_forms::symbol_is_bytes;
 use crate::numbers::put_number;
-use collections::{Boxed, Memory};
-use contract::{Observation, Value};
+use contract::{Boxed, Memory, Observation, Party, Token, Value};
 use json::Writer;
-use names::{Party, Token};
 use std::alloc::Global;
 
 fn put_available(

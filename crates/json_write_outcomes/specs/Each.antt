@@ -1,7 +1,7 @@
 -- What holds of each item of a list.
 use Rattle.std.specs.Prelude.{ℤ, List, [], ◌∷◌, ⊤}
 use Rattle.hex.specs.Hex.{IsBytes}
-use Rattle.names.specs.declared.account.Account.{Account}
+use Rattle.contract.specs.Names.declared.account.Account.{Account}
 
 abbrev pub Each : {X : Type 0} → (X → Type 0) → List X → Type 0
 Each P [] = ⊤

@@ -7,7 +7,7 @@ ghost use Rattle.json_write_contracts.specs.Members.{member_tokens};
 ghost use Rattle.json_write_contracts.specs.Tokens.{Adds, Keeps, Puts};
 ghost use Rattle.json_write_outcomes.specs.Each.{Each};
 
-use collections::Memory;
+use contract::Memory;
 use json::Writer;
 use std::alloc::Global;
 

@@ -10,11 +10,9 @@ ghost use Rattle.json_write_outcomes.specs.WrittenOutcome.{payments_json, warnin
 
 use crate::lists::list_member;
 use crate::state_forms::put_state;
-use collections::{Items, Memory};
-use contract::{Contract, Outcome, Payment, Warning};
+use contract::{Contract, Items, Memory, Outcome, Payment, State, Warning};
 use json::Writer;
 use json_write_contracts::{WriteFault, put_contract};
-use states::State;
 use std::alloc::Global;
 
 fn payments_member(alloc: Global, out: &mut Writer, payments: &Items<Payment>) -> Result<(), Memory>

@@ -5,8 +5,7 @@ ghost use Rattle.json_write_contracts.specs.Tokens.{Keeps, Puts};
 ghost use Rattle.json_write_outcomes.specs.WrittenOutcome.{payment_json};
 
 use crate::lists::PutItem;
-use collections::Memory;
-use contract::Payment;
+use contract::{Memory, Payment};
 use json::Writer;
 use json_write_contracts::{end_with_three, put_member};
 use std::alloc::Global;

@@ -6,10 +6,9 @@ ghost use Rattle.json_write_outcomes.specs.Each.{HasBytes};
 ghost use Rattle.json_write_outcomes.specs.WrittenOutcome.{account_row_json, choice_row_json, bound_row_json};
 
 use crate::lists::PutItem;
-use collections::{Memory, Text};
+use contract::{Account, ChoiceId, Memory, Text};
 use json::Writer;
 use json_write_contracts::{put_pair, symbol_is_bytes};
-use names::{Account, ChoiceId};
 use std::alloc::Global;
 
 impl PutItem for (Account, i128) {

@@ -9,10 +9,9 @@ ghost use Rattle.json_write_outcomes.specs.Each.{Each, HasBytes};
 ghost use Rattle.json_write_outcomes.specs.WrittenOutcome.{accounts_json, bound_values_json, choices_json, state_json};
 
 use crate::lists::list_member;
-use collections::Memory;
+use contract::{Memory, State};
 use json::Writer;
 use json_write_contracts::put_time;
-use states::State;
 use std::alloc::Global;
 
 fn accounts_member(alloc: Global, out: &mut Writer, state: &State) -> Result<(), Memory>

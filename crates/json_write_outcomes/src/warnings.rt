@@ -6,11 +6,9 @@ ghost use Rattle.json_write_outcomes.specs.WrittenOutcome.{warning_json};
 ghost use Rattle.json_write_outcomes.specs.Puts.{PutsWarning};
 
 use crate::lists::PutItem;
-use collections::{Memory, Text};
-use contract::Warning;
+use contract::{Memory, Party, Payee, Text, Token, Warning};
 use json::Writer;
 use json_write_contracts::{end_with_one, end_with_three, put_member};
-use names::{Party, Payee, Token};
 use std::alloc::Global;
 
 fn put_deposit_warning(

@@ -1,1 +1,4 @@
 mod MomentLemmas
+pub mod FromSemantics
+pub mod FromBundle
+pub mod FromRoles

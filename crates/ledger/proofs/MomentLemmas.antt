@@ -3,16 +3,16 @@ use Rattle.std.proofs.Common.{◌≡◌, ◌+◌, Bool, cond, not, List, [], ◌
 use Rattle.std.specs.Prelude.{nat_lt, is_none, option_map}
 use Rattle.std.specs.List.{position, position_or_len}
 use Rattle.std.proofs.lemmas.List.{length-map}
-use Rattle.eutxo_types.specs.declared.fault.TxFault.{TxFault}
-use Rattle.eutxo_types.specs.declared.fault.TxFault.TheVariants.{NotUnspent}
-use Rattle.eutxo_types.specs.declared.output.Output.{Output}
-use Rattle.eutxo_types.specs.declared.spend.Spend.{Spend}
-use Rattle.eutxo_types.specs.declared.tx.Tx.{Tx}
-use Rattle.eutxo.specs.Asked.{Judges}
-use Rattle.eutxo.specs.Faults.{first_of, fault_at}
-use Rattle.eutxo.specs.declared.judged.Judged.{Judged}
-use Rattle.eutxo.specs.Local.{tx_fault, local, places_of, judged_as, judged}
-use Rattle.eutxo.specs.Judgement.{Moment, not_unspent, id_in_use, outside_interval, unknown_script, outputs_found, found, judge, judgement}
+use Rattle.roles.specs.EutxoTypes.declared.fault.TxFault.{TxFault}
+use Rattle.roles.specs.EutxoTypes.declared.fault.TxFault.TheVariants.{NotUnspent}
+use Rattle.roles.specs.EutxoTypes.declared.output.Output.{Output}
+use Rattle.roles.specs.EutxoTypes.declared.spend.Spend.{Spend}
+use Rattle.roles.specs.EutxoTypes.declared.tx.Tx.{Tx}
+use Rattle.roles.specs.Eutxo.Asked.{Judges}
+use Rattle.roles.specs.Eutxo.Faults.{first_of, fault_at}
+use Rattle.roles.specs.Eutxo.declared.judged.Judged.{Judged}
+use Rattle.roles.specs.Eutxo.Local.{tx_fault, local, places_of, judged_as, judged}
+use Rattle.roles.specs.Eutxo.Judgement.{Moment, not_unspent, id_in_use, outside_interval, unknown_script, outputs_found, found, judge, judgement}
 use Rattle.ledger.specs.ResolveSupport.{moment_fault}
 
 -- the place where a test holds, of elements or of what a function makes of them

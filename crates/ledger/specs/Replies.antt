@@ -1,7 +1,7 @@
 -- What a reply says.
 use Rattle.std.specs.Prelude.{ℕ, Bool, true, false, List, [], Option, Some, None}
-use Rattle.eutxo_types.specs.declared.verdict.Verdict.{Verdict}
-use Rattle.eutxo_types.specs.declared.verdict.Verdict.TheVariants as told
+use Rattle.roles.specs.EutxoTypes.declared.verdict.Verdict.{Verdict}
+use Rattle.roles.specs.EutxoTypes.declared.verdict.Verdict.TheVariants as told
 use Rattle.ledger.specs.declared.call.Reply.{Reply}
 use Rattle.ledger.specs.declared.call.Reply.TheVariants as answer
 use Rattle.ledger.specs.declared.call.Ticketed.{Ticketed}

@@ -2,13 +2,13 @@
 -- the ledger, together.
 use Rattle.std.specs.Prelude.{ℕ, List, [], ◌∷◌, Option, Some, None}
 use Rattle.std.specs.FinMap.{FinMap}
-use Rattle.names.specs.Orders.{bytes_cmp}
-use Rattle.eutxo_types.specs.declared.output.Output.{Output}
-use Rattle.eutxo_types.specs.Parts.{script_in}
-use Rattle.eutxo_types.specs.declared.fault.TxFault.{TxFault}
-use Rattle.eutxo_types.specs.declared.tx.Tx.{Tx}
-use Rattle.eutxo.specs.Faults.{first_of}
-use Rattle.eutxo.specs.Judgement.{Moment, not_unspent, id_in_use, outside_interval, unknown_script, with_script}
+use Rattle.contract.specs.Names.Orders.{bytes_cmp}
+use Rattle.roles.specs.EutxoTypes.declared.output.Output.{Output}
+use Rattle.roles.specs.EutxoTypes.Parts.{script_in}
+use Rattle.roles.specs.EutxoTypes.declared.fault.TxFault.{TxFault}
+use Rattle.roles.specs.EutxoTypes.declared.tx.Tx.{Tx}
+use Rattle.roles.specs.Eutxo.Faults.{first_of}
+use Rattle.roles.specs.Eutxo.Judgement.{Moment, not_unspent, id_in_use, outside_interval, unknown_script, with_script}
 
 -- the script that an output names, where there is one
 abbrev pub script_of : Option Output → Option (List ℕ)

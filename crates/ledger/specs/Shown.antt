@@ -1,10 +1,10 @@
 -- What a look holds of what the rules read of a ledger.
 use Rattle.std.specs.Prelude.{ℕ, false, if◌then◌else◌, List, [], ◌∷◌, Option, Some, None}
-use Rattle.eutxo_types.specs.declared.output.Output.{Output}
-use Rattle.eutxo_types.specs.declared.output_ref.OutputRef.{OutputRef}
-use Rattle.eutxo.specs.Judgement.{Moment}
-use Rattle.eutxo_types.specs.Parts.{same_bytes, same_ref}
-use Rattle.eutxo.specs.Faults.{or_else}
+use Rattle.roles.specs.EutxoTypes.declared.output.Output.{Output}
+use Rattle.roles.specs.EutxoTypes.declared.output_ref.OutputRef.{OutputRef}
+use Rattle.roles.specs.Eutxo.Judgement.{Moment}
+use Rattle.roles.specs.EutxoTypes.Parts.{same_bytes, same_ref}
+use Rattle.roles.specs.Eutxo.Faults.{or_else}
 use Rattle.roles.specs.declared.published.Published.{Published}
 use Rattle.ledger.specs.declared.look.Look.{Look}
 use Rattle.ledger.specs.declared.look.ThreadOutput.{ThreadOutput}

@@ -1,6 +1,6 @@
 //! What is asked of a ledger.
-use collections::{Bytes, Items, Memory, Same, Text, TryClone};
-use eutxo_types::OutputRef;
+use contract::{Bytes, Items, Memory, Same, Text, TryClone};
+use roles::OutputRef;
 
 /// The lock of payouts: the currency symbol and the role whose token opens them (Marlowe specification version 3,
 /// "Participants, roles and public keys").

@@ -1,10 +1,8 @@
 //! Calls, replies and entries.
 use crate::ask::Ask;
 use crate::look::Look;
-use collections::{Bytes, Items, Memory, Same, TryClone};
-use contract::Contract;
-use eutxo_types::{Tx, TxFault, Verdict};
-use roles::CompileFault;
+use contract::{Bytes, Contract, Items, Memory, Same, TryClone};
+use roles::{CompileFault, Tx, TxFault, Verdict};
 
 /// What a caller asks of the chain.
 pub enum Call {

@@ -1,10 +1,10 @@
 //! Equality: what `==` answers is whether the two are the same.
 use crate::call::{Call, Entry, Reply, Ticketed};
-use collections::Same;
+use contract::Same;
 
 impl PartialEq for Call {
-    ghost use Rattle.collections.specs.Same.{same_by};
-    ghost use Rattle.collections.proofs.SameLaws.{same_by-partial};
+    ghost use Rattle.contract.specs.Collections.Same.{same_by};
+    ghost use Rattle.contract.proofs.FromCollections.SameLaws.{same_by-partial};
     ghost use Rattle.ledger.specs.contracts.call.Call as it;
 
     ghost eq = { same_by it.the_row.coded };
@@ -17,15 +17,15 @@ impl PartialEq for Call {
 }
 
 impl Eq for Call {
-    ghost use Rattle.collections.proofs.SameLaws.{same_by-equiv};
+    ghost use Rattle.contract.proofs.FromCollections.SameLaws.{same_by-equiv};
     ghost use Rattle.ledger.specs.contracts.call.Call as it;
 
     ghost laws = { same_by-equiv it.the_row.coded };
 }
 
 impl PartialEq for Ticketed {
-    ghost use Rattle.collections.specs.Same.{same_by};
-    ghost use Rattle.collections.proofs.SameLaws.{same_by-partial};
+    ghost use Rattle.contract.specs.Collections.Same.{same_by};
+    ghost use Rattle.contract.proofs.FromCollections.SameLaws.{same_by-partial};
     ghost use Rattle.ledger.specs.contracts.call.Ticketed as it;
 
     ghost eq = { same_by it.the_row.coded };
@@ -38,15 +38,15 @@ impl PartialEq for Ticketed {
 }
 
 impl Eq for Ticketed {
-    ghost use Rattle.collections.proofs.SameLaws.{same_by-equiv};
+    ghost use Rattle.contract.proofs.FromCollections.SameLaws.{same_by-equiv};
     ghost use Rattle.ledger.specs.contracts.call.Ticketed as it;
 
     ghost laws = { same_by-equiv it.the_row.coded };
 }
 
 impl PartialEq for Reply {
-    ghost use Rattle.collections.specs.Same.{same_by};
-    ghost use Rattle.collections.proofs.SameLaws.{same_by-partial};
+    ghost use Rattle.contract.specs.Collections.Same.{same_by};
+    ghost use Rattle.contract.proofs.FromCollections.SameLaws.{same_by-partial};
     ghost use Rattle.ledger.specs.contracts.call.Reply as it;
 
     ghost eq = { same_by it.the_row.coded };
@@ -59,15 +59,15 @@ impl PartialEq for Reply {
 }
 
 impl Eq for Reply {
-    ghost use Rattle.collections.proofs.SameLaws.{same_by-equiv};
+    ghost use Rattle.contract.proofs.FromCollections.SameLaws.{same_by-equiv};
     ghost use Rattle.ledger.specs.contracts.call.Reply as it;
 
     ghost laws = { same_by-equiv it.the_row.coded };
 }
 
 impl PartialEq for Entry {
-    ghost use Rattle.collections.specs.Same.{same_by};
-    ghost use Rattle.collections.proofs.SameLaws.{same_by-partial};
+    ghost use Rattle.contract.specs.Collections.Same.{same_by};
+    ghost use Rattle.contract.proofs.FromCollections.SameLaws.{same_by-partial};
     ghost use Rattle.ledger.specs.contracts.call.Entry as it;
 
     ghost eq = { same_by it.the_row.coded };
@@ -80,7 +80,7 @@ impl PartialEq for Entry {
 }
 
 impl Eq for Entry {
-    ghost use Rattle.collections.proofs.SameLaws.{same_by-equiv};
+    ghost use Rattle.contract.proofs.FromCollections.SameLaws.{same_by-equiv};
     ghost use Rattle.ledger.specs.contracts.call.Entry as it;
 
     ghost laws = { same_by-equiv it.the_row.coded };

@@ -1,13 +1,12 @@
 //! What is found of what a transaction names.
 ghost use Rattle.std.specs.Prelude.{◌≡◌, ◌++◌, IfOk, OnOk, map};
-ghost use Rattle.eutxo.specs.Judgement.{with_script, made_names, found_names, scripts_found, outputs_found, found};
-ghost use Rattle.eutxo_types.specs.Parts.{script_in};
+ghost use Rattle.roles.specs.Eutxo.Judgement.{with_script, made_names, found_names, scripts_found, outputs_found, found};
+ghost use Rattle.roles.specs.EutxoTypes.Parts.{script_in};
 ghost use Rattle.ledger.specs.ResolveSupport.{script_of, with_named};
 
 use crate::ledger::Resolves;
-use collections::{Items, Memory, TryClone};
-use eutxo::{Resolved, Scripts, copy_option};
-use eutxo_types::{Output, Spend, Tx};
+use contract::{Items, Memory, TryClone};
+use roles::{Output, Resolved, Scripts, Spend, Tx, copy_option};
 use std::alloc::Global;
 
 // For each input the unspent output that it names, or `None`.

@@ -1,9 +1,8 @@
 //! What the rules read of a ledger.
 ghost use Rattle.std.specs.Prelude.{◌≡◌, option_copied};
-ghost use Rattle.eutxo.specs.Judgement.{Moment};
+ghost use Rattle.roles.specs.Eutxo.Judgement.{Moment};
 
-use eutxo::Shared;
-use eutxo_types::{Output, OutputRef};
+use roles::{Output, OutputRef, Shared};
 
 /// What tells of unspent outputs and of published scripts: a ledger, or a look at one. What a transaction names is
 /// found there. No look-up takes memory.

@@ -31,4 +31,14 @@ pub use found::resolve;
 pub use ledger::{Ledger, Resolves};
 pub use look::{Look, ThreadOutput, Unspent};
 pub use reading::{accepts, is_accepted, is_advanced, ticket_in, verdicts_in};
+pub use roles::{
+    Bundle, BundleFault, Checked, CompileFault, Cont, ContractLock, Datum, Holds, Instance, Judged,
+    Lock, Output, OutputRef, Places, Plain, Published, Redeemer, Resolved, Scripts, Shared, Spend,
+    Spent, StepAnswer, StepFault, Steps, Tx, TxFault, Validator, Verdict, WideSum, actor, check,
+    check_owned, checks_of, compute, continuation, contracts_close_after_the_last_timeout,
+    datum_hash, difference, fits_spelling, found_is_enough, found_tells_places, has_signed,
+    holds_sums, id_at_hand, money_is_kept, no_transaction_begins_another, only,
+    payments_are_natural, publish, published_are_tables, published_tell_contracts_apart, put_due,
+    sum, transactions_end_quiet, tx_id, verdict_of, with_datum,
+};
 pub use rules::judge;

@@ -1,11 +1,8 @@
 //! What is shown of a ledger.
 ghost use Rattle.std.specs.Prelude.{◌≡◌, ◌↔◌, IsTrue};
 
-use bundle::{Bundle, Holds};
-use collections::{Items, Memory, Same, TryClone};
-use eutxo::{Shared, copy_option};
-use eutxo_types::{Datum, Output, OutputRef};
-use roles::Published;
+use contract::{Items, Memory, Same, TryClone};
+use roles::{Bundle, Datum, Holds, Output, OutputRef, Published, Shared, copy_option};
 
 /// An unspent output with the reference that names it.
 #[derive(Drop)]

@@ -3,7 +3,7 @@ ghost use Rattle.std.specs.Prelude.{◌≡◌};
 ghost use Rattle.ledger.specs.Replies.{is_advanced, is_accepted, ticket_in, verdicts_in, accepts};
 
 use crate::call::{Reply, Ticketed};
-use eutxo_types::Verdict;
+use roles::Verdict;
 
 /// Whether it says that the tick was moved on.
 pub fn is_advanced(reply: &Reply) -> bool

@@ -1,19 +1,21 @@
 //! The judgement.
 ghost use Rattle.std.specs.Prelude.{◌≡◌, None, IfOk, position, is_none};
-ghost use Rattle.eutxo_types.specs.declared.fault.TxFault.TheVariants as TxFault;
-ghost use Rattle.eutxo_types.specs.Ids.{id_of};
-ghost use Rattle.eutxo.specs.Checks.{BeginWith};
-ghost use Rattle.eutxo.specs.Found.{is_known};
-ghost use Rattle.eutxo.specs.Local.{tx_fault, judged};
-ghost use Rattle.eutxo.specs.Faults.{fault_at};
-ghost use Rattle.eutxo.specs.Judgement.{outside_interval, is_unknown, unknown_script, outputs_found, judgement};
+ghost use Rattle.roles.specs.EutxoTypes.declared.fault.TxFault.TheVariants as TxFault;
+ghost use Rattle.roles.specs.EutxoTypes.Ids.{id_of};
+ghost use Rattle.roles.specs.Eutxo.Checks.{BeginWith};
+ghost use Rattle.roles.specs.Eutxo.Found.{is_known};
+ghost use Rattle.roles.specs.Eutxo.Local.{tx_fault, judged};
+ghost use Rattle.roles.specs.Eutxo.Faults.{fault_at};
+ghost use Rattle.roles.specs.Eutxo.Judgement.{outside_interval, is_unknown, unknown_script, outputs_found, judgement};
 ghost use Rattle.ledger.specs.ResolveSupport.{moment_fault};
 
 use crate::found::{outputs_found, with_scripts};
 use crate::ledger::{Ledger, Resolves};
-use collections::Memory;
-use eutxo::{Checked, Judged, Resolved, Validator, judge_spent, kept_among, tx_fault};
-use eutxo_types::{Lock, Output, Tx, TxFault};
+use contract::Memory;
+use roles::{
+    Checked, Judged, Lock, Output, Resolved, Tx, TxFault, Validator, judge_spent, kept_among,
+    tx_fault,
+};
 use std::alloc::Global;
 
 fn missing_index(outputs: &[Option<Output>]) -> Option<usize>

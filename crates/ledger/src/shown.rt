@@ -1,17 +1,15 @@
 //! What a look holds of a ledger.
 ghost use Rattle.std.specs.Prelude.{◌≡◌, IfOk, option_copied};
-ghost use Rattle.eutxo.specs.Judgement.{found};
-ghost use Rattle.eutxo.specs.Faults.{or_else};
+ghost use Rattle.roles.specs.Eutxo.Judgement.{found};
+ghost use Rattle.roles.specs.Eutxo.Faults.{or_else};
 ghost use Rattle.roles.specs.declared.published.Published.{Published};
 ghost use Rattle.ledger.specs.Shown.{output_among, output_of_thread, output_shown, script_shown, look_moment};
 
 use crate::found::resolve;
 use crate::ledger::Resolves;
 use crate::look::{Look, ThreadOutput, Unspent};
-use collections::Memory;
-use eutxo::{Resolved, Shared};
-use eutxo_types::{Output, OutputRef, Tx};
-use roles::Published;
+use contract::Memory;
+use roles::{Output, OutputRef, Published, Resolved, Shared, Tx};
 use std::alloc::Global;
 
 fn output_among<'a>(outputs: &'a [Unspent], reference: &OutputRef) -> Option<&'a Output>

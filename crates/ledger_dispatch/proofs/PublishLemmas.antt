@@ -4,12 +4,12 @@ use Rattle.std.specs.Prelude.{MatchOption}
 use Rattle.std.specs.Result.{IsOkUnless}
 use Rattle.contract.specs.declared.tree.Contract.{Contract}
 use Rattle.contract.specs.Tree.{ContractTree, contract_tree}
-use Rattle.compiler.specs.declared.fault.CompileFault.{CompileFault}
-use Rattle.compiler.specs.declared.fault.CompileFault.TheVariants as faults
-use Rattle.compiler.specs.Limits.{compile_fault}
-use Rattle.roles.specs.declared.published.Published.{Published}
-use Rattle.roles.specs.Publications.{published_of}
-use Rattle.ledger_spec.specs.Replay.{if_compiled, publication}
+use Rattle.ledger_views.specs.Compiler.declared.fault.CompileFault.{CompileFault}
+use Rattle.ledger_views.specs.Compiler.declared.fault.CompileFault.TheVariants as faults
+use Rattle.ledger_views.specs.Compiler.Limits.{compile_fault}
+use Rattle.ledger_views.specs.Roles.declared.published.Published.{Published}
+use Rattle.ledger_views.specs.Roles.Publications.{published_of}
+use Rattle.ledger_views.specs.LedgerSpec.Replay.{if_compiled, publication}
 
 ok_by : (c : ContractTree) (currency : List ℕ) (p : Published) (f : Option CompileFault) →
     MatchOption f (IsOkUnless (let r : Result Published CompileFault = Ok p in r) faults.Memory) (λ e. (let r : Result Published CompileFault = Ok p in r) ≡ Err e) →

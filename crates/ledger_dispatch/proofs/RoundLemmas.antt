@@ -2,13 +2,13 @@
 use Rattle.std.proofs.Common.{◌≡◌, ℕ, zero, suc, ◌+◌, ◌<◌, List, [], ◌∷◌, ◌++◌, refl, sym, ◌∙◌, ap, append_assoc, arith, Option, Some, None, take, drop, length, map}
 use Rattle.std.specs.List.{slice_get}
 use Rattle.std.proofs.lemmas.List.{map-append}
-use Rattle.eutxo_types.specs.declared.tx.Tx.{Tx}
-use Rattle.eutxo_types.specs.declared.fault.TxFault.{TxFault}
-use Rattle.eutxo.specs.Local.{verdict_of}
-use Rattle.ledger.specs.declared.call.Ticketed.{Ticketed}
-use Rattle.ledger_laws.proofs.PlainLaws.{take_some, drop_some, no_more, same_some}
-use Rattle.ledger_spec.specs.Replay.{Pending, World, accepted_at, accepted_among}
-use Rattle.ledger_spec.specs.Calls.{with_accepted_unless, fault_on, round_verdicts}
+use Rattle.ledger_views.specs.EutxoTypes.declared.tx.Tx.{Tx}
+use Rattle.ledger_views.specs.EutxoTypes.declared.fault.TxFault.{TxFault}
+use Rattle.ledger_views.specs.Eutxo.Local.{verdict_of}
+use Rattle.ledger_views.specs.Ledger.declared.call.Ticketed.{Ticketed}
+use Rattle.ledger_views.proofs.FromLedgerLaws.PlainLaws.{take_some, drop_some, no_more, same_some}
+use Rattle.ledger_views.specs.LedgerSpec.Replay.{Pending, World, accepted_at, accepted_among}
+use Rattle.ledger_views.specs.LedgerSpec.Calls.{with_accepted_unless, fault_on, round_verdicts}
 use Rattle.ledger_dispatch.specs.DispatchSupport.{with_places}
 
 one_more : (i : ℕ) → suc i ≡ i + 1

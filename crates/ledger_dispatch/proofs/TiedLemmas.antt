@@ -2,25 +2,25 @@
 use Rattle.std.proofs.Common.{◌≡◌, ℕ, ℤ, [], ◌∷◌, ◌++◌, sym, ◌∙◌, ap, subst, refl, Bool, true, false, length, take, Option, Some, None, Result, Ok, Err}
 use Rattle.std.specs.Prelude.{if◌then◌else◌, int_le, nat_lt, is_some}
 use Rattle.std.proofs.lemmas.List.Elements.{All-nil, All-cons, All-append}
-use Rattle.compiler.specs.declared.fault.CompileFault.{CompileFault}
-use Rattle.eutxo_types.specs.declared.fault.TxFault.{TxFault}
-use Rattle.eutxo_types.specs.declared.tx.Tx.{Tx}
-use Rattle.eutxo_types.specs.Fitting.{TxFits}
-use Rattle.eutxo.specs.declared.judged.Judged.{Judged}
-use Rattle.eutxo.specs.Blocks.{places_in}
-use Rattle.eutxo.specs.Judgement.{Moment, found, judge}
-use Rattle.eutxo.specs.Local.{places_of, unless_refused}
-use Rattle.roles.specs.declared.published.Published.{Published}
-use Rattle.roles.specs.Steps.{marlowe}
-use Rattle.ledger.specs.declared.call.Call.TheVariants as on
-use Rattle.ledger.specs.declared.call.Reply.TheVariants as answer
-use Rattle.ledger_laws.specs.Laws.{AfterIsSound, LaterIsSound}
-use Rattle.ledger_spec.specs.Replay.{World, past_of, moment_of, published_at, with_object, after_call}
-use Rattle.ledger_spec.specs.Calls.{most_pending, fault_on, with_accepted_unless, submit_reply, round_verdicts}
-use Rattle.ledger_spec.proofs.PublishingLaws.{with_stays}
-use Rattle.chain_index.specs.Contents.{Contents, contents_of, blocks_in, accepting, moment_at, CanBeAdded}
-use Rattle.chain_index.specs.Laws.{ReadsAlike, AcceptsAlike, PlacesAlike, PublishesAlike, JudgedCanBeAdded}
-use Rattle.ledger_kept.specs.Kept.{IsIndexOf, world_with}
+use Rattle.ledger_views.specs.Compiler.declared.fault.CompileFault.{CompileFault}
+use Rattle.ledger_views.specs.EutxoTypes.declared.fault.TxFault.{TxFault}
+use Rattle.ledger_views.specs.EutxoTypes.declared.tx.Tx.{Tx}
+use Rattle.ledger_views.specs.EutxoTypes.Fitting.{TxFits}
+use Rattle.ledger_views.specs.Eutxo.declared.judged.Judged.{Judged}
+use Rattle.ledger_views.specs.Eutxo.Blocks.{places_in}
+use Rattle.ledger_views.specs.Eutxo.Judgement.{Moment, found, judge}
+use Rattle.ledger_views.specs.Eutxo.Local.{places_of, unless_refused}
+use Rattle.ledger_views.specs.Roles.declared.published.Published.{Published}
+use Rattle.ledger_views.specs.Roles.Steps.{marlowe}
+use Rattle.ledger_views.specs.Ledger.declared.call.Call.TheVariants as on
+use Rattle.ledger_views.specs.Ledger.declared.call.Reply.TheVariants as answer
+use Rattle.ledger_views.specs.LedgerLaws.Laws.{AfterIsSound, LaterIsSound}
+use Rattle.ledger_views.specs.LedgerSpec.Replay.{World, past_of, moment_of, published_at, with_object, after_call}
+use Rattle.ledger_views.specs.LedgerSpec.Calls.{most_pending, fault_on, with_accepted_unless, submit_reply, round_verdicts}
+use Rattle.ledger_views.proofs.FromLedgerSpec.PublishingLaws.{with_stays}
+use Rattle.ledger_views.specs.ChainIndex.Contents.{Contents, contents_of, blocks_in, accepting, moment_at, CanBeAdded}
+use Rattle.ledger_views.specs.ChainIndex.Laws.{ReadsAlike, AcceptsAlike, PlacesAlike, PublishesAlike, JudgedCanBeAdded}
+use Rattle.ledger_views.specs.LedgerKept.Kept.{IsIndexOf, world_with}
 use Rattle.ledger_dispatch.specs.DispatchSupport.{fault_in, judged_in, CanBeTaken, accepting_unless, EachIsJudgedAlike, with_places}
 
 -- ---- transactions

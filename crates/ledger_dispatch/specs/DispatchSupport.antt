@@ -1,18 +1,18 @@
 -- No reader needs this file: how an index is judged by and added to, call by call, and what stands in the middle of a round.
 use Rattle.std.specs.Prelude.{◌≡◌, ℤ, List, ◌++◌, Option, Some, None}
-use Rattle.eutxo_types.specs.declared.fault.TxFault.{TxFault}
-use Rattle.eutxo_types.specs.declared.tx.Tx.{Tx}
-use Rattle.eutxo_types.specs.Fitting.{TxFits}
-use Rattle.eutxo.specs.declared.judged.Judged.{Judged}
-use Rattle.eutxo.specs.Blocks.{places_in}
-use Rattle.eutxo.specs.Judgement.{found, judge, judgement}
-use Rattle.eutxo.specs.Local.{places_of}
-use Rattle.roles.specs.Steps.{marlowe}
-use Rattle.ledger.specs.declared.call.Ticketed.{Ticketed}
-use Rattle.ledger_spec.specs.Replay.{World, accepted_among}
-use Rattle.ledger_spec.specs.Calls.{fault_on, with_accepted_unless}
-use Rattle.chain_index.specs.Contents.{Contents, blocks_in, accepting, moment_at, CanBeAdded}
-use Rattle.ledger_kept.specs.Kept.{IsIndexOf}
+use Rattle.ledger_views.specs.EutxoTypes.declared.fault.TxFault.{TxFault}
+use Rattle.ledger_views.specs.EutxoTypes.declared.tx.Tx.{Tx}
+use Rattle.ledger_views.specs.EutxoTypes.Fitting.{TxFits}
+use Rattle.ledger_views.specs.Eutxo.declared.judged.Judged.{Judged}
+use Rattle.ledger_views.specs.Eutxo.Blocks.{places_in}
+use Rattle.ledger_views.specs.Eutxo.Judgement.{found, judge, judgement}
+use Rattle.ledger_views.specs.Eutxo.Local.{places_of}
+use Rattle.ledger_views.specs.Roles.Steps.{marlowe}
+use Rattle.ledger_views.specs.Ledger.declared.call.Ticketed.{Ticketed}
+use Rattle.ledger_views.specs.LedgerSpec.Replay.{World, accepted_among}
+use Rattle.ledger_views.specs.LedgerSpec.Calls.{fault_on, with_accepted_unless}
+use Rattle.ledger_views.specs.ChainIndex.Contents.{Contents, blocks_in, accepting, moment_at, CanBeAdded}
+use Rattle.ledger_views.specs.LedgerKept.Kept.{IsIndexOf}
 
 -- ---- transactions
 

@@ -1,29 +1,26 @@
 //! What a call is answered.
 ghost use Rattle.std.specs.Prelude.{◌≡◌, ◌≤◌, ◌⊎◌, IfOk, IfErr, OnOk, OnErr, Ok, Err, None, length, take, is_none};
-ghost use Rattle.compiler.specs.declared.fault.CompileFault.TheVariants as faults;
-ghost use Rattle.eutxo_types.specs.Fitting.{TxFits};
-ghost use Rattle.eutxo_types.specs.Ids.{id_of};
-ghost use Rattle.eutxo.specs.Checks.{BeginWith};
-ghost use Rattle.eutxo.specs.Local.{verdict_of};
-ghost use Rattle.ledger.specs.declared.call.Reply.TheVariants as replies;
-ghost use Rattle.ledger_spec.specs.Replay.{published_at, publication, with_object, World, world};
-ghost use Rattle.ledger_spec.specs.Views.{look};
-ghost use Rattle.ledger_spec.specs.Calls.{publish_reply_beside, publish_reply, fault_on, submit_reply, with_accepted_unless, round_verdicts, advance_reply, enqueue_reply, reply_to};
-ghost use Rattle.eutxo.specs.Blocks.{places_in};
-ghost use Rattle.chain_index.specs.Contents.{blocks_in, CanBeAdded};
-ghost use Rattle.ledger_kept.specs.Kept.{IsIndexOf, world_with};
+ghost use Rattle.ledger_views.specs.Compiler.declared.fault.CompileFault.TheVariants as faults;
+ghost use Rattle.ledger_views.specs.EutxoTypes.Fitting.{TxFits};
+ghost use Rattle.ledger_views.specs.EutxoTypes.Ids.{id_of};
+ghost use Rattle.ledger_views.specs.Eutxo.Checks.{BeginWith};
+ghost use Rattle.ledger_views.specs.Eutxo.Local.{verdict_of};
+ghost use Rattle.ledger_views.specs.Ledger.declared.call.Reply.TheVariants as replies;
+ghost use Rattle.ledger_views.specs.LedgerSpec.Replay.{published_at, publication, with_object, World, world};
+ghost use Rattle.ledger_views.specs.LedgerSpec.Views.{look};
+ghost use Rattle.ledger_views.specs.LedgerSpec.Calls.{publish_reply_beside, publish_reply, fault_on, submit_reply, with_accepted_unless, round_verdicts, advance_reply, enqueue_reply, reply_to};
+ghost use Rattle.ledger_views.specs.Eutxo.Blocks.{places_in};
+ghost use Rattle.ledger_views.specs.ChainIndex.Contents.{blocks_in, CanBeAdded};
+ghost use Rattle.ledger_views.specs.LedgerKept.Kept.{IsIndexOf, world_with};
 ghost use Rattle.ledger_dispatch.specs.DispatchSupport.{fault_in, judged_in, CanBeTaken, accepting_unless, EachIsJudgedAlike, with_places};
 
-use chain_index::{Index, IndexAt, index_accepts_alike, index_publishes_alike, index_reads_alike};
-use collections::{Bytes, Items, Memory, TryClone};
-use contract::Contract;
-use eutxo::{Checked, Judged, Shared, checks_of, id_at_hand, verdict_of};
-use eutxo_types::{Tx, TxFault, fits_spelling};
-use ledger::{Ask, Call, Reply, Ticketed, judge};
-use ledger_kept::Kept;
-use ledger_laws::{accepting_is_sound, publishing_is_sound};
-use ledger_views::show;
-use roles::{CompileFault, Published, publish};
+use contract::{Bytes, Contract, Items, Memory, TryClone};
+use ledger_views::{
+    Ask, Call, Checked, CompileFault, Index, IndexAt, Judged, Kept, Published, Reply, Shared,
+    Ticketed, Tx, TxFault, accepting_is_sound, checks_of, fits_spelling, id_at_hand,
+    index_accepts_alike, index_publishes_alike, index_reads_alike, judge, publish,
+    publishing_is_sound, show, verdict_of,
+};
 use std::alloc::{AllocError, Global};
 use std::sync::Arc;
 

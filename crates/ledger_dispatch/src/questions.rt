@@ -1,19 +1,14 @@
 //! What a question is answered.
 ghost use Rattle.std.specs.Prelude.{◌≡◌, IfOk, map};
-ghost use Rattle.eutxo.specs.Judgement.{found};
-ghost use Rattle.ledger_spec.specs.Replay.{world, moment_of};
-ghost use Rattle.ledger_spec.specs.Views.{with_found, pool_front};
-ghost use Rattle.chain_index.specs.Contents.{moment_at};
-ghost use Rattle.ledger_kept.specs.Kept.{IsIndexOf};
+ghost use Rattle.ledger_views.specs.Eutxo.Judgement.{found};
+ghost use Rattle.ledger_views.specs.LedgerSpec.Replay.{world, moment_of};
+ghost use Rattle.ledger_views.specs.LedgerSpec.Views.{with_found, pool_front};
+ghost use Rattle.ledger_views.specs.ChainIndex.Contents.{moment_at};
+ghost use Rattle.ledger_views.specs.LedgerKept.Kept.{IsIndexOf};
 
 use crate::dispatch::first_of;
-use chain_index::{Index, IndexAt, index_reads_alike};
-use collections::{Memory, TryClone};
-use eutxo::Resolved;
-use eutxo_types::Tx;
-use ledger::resolve;
-use ledger_kept::Kept;
-use roles::Published;
+use contract::{Memory, TryClone};
+use ledger_views::{Index, IndexAt, Kept, Published, Resolved, Tx, index_reads_alike, resolve};
 use std::alloc::Global;
 
 // What is found of what a transaction names, by what is indexed at a tick.

@@ -12,16 +12,16 @@ use Rattle.std.specs.declared.cmp.Ordering.TheVariants.{Less, Equal, Greater}
 use Rattle.std.specs.FinMap as maps
 use Rattle.std.specs.FinMap.{entries, entries_sorted, get-entries, get-empty}
 use Rattle.std.specs.FinMap.Entries.{find, is_sorted}
-use Rattle.collections.proofs.Places.{second, third, below_equal, find_below}
-use Rattle.names.specs.declared.token.Token.{Token}
-use Rattle.names.specs.Orders.{token_cmp}
-use Rattle.names.specs.Totals.{token_total}
-use Rattle.names.proofs.Exact.{token_exact}
-use Rattle.bundle.specs.Bundles.{Amounts, amount_of, plus, is_large, any_large, too_large}
-use Rattle.bundle.specs.Totals.{total_of}
-use Rattle.bundle.proofs.AmountLaws.{sums_are_of_each_token}
-use Rattle.eutxo_types.specs.declared.output.Output.{Output}
-use Rattle.ledger_spec.specs.Genesis.{most, SumsFit, HasLargeSum}
+use Rattle.contract.proofs.FromCollections.Places.{second, third, below_equal, find_below}
+use Rattle.contract.specs.Names.declared.token.Token.{Token}
+use Rattle.contract.specs.Names.Orders.{token_cmp}
+use Rattle.contract.specs.Names.Totals.{token_total}
+use Rattle.contract.proofs.FromNames.Exact.{token_exact}
+use Rattle.chain_index.specs.Bundle.Bundles.{Amounts, amount_of, plus, is_large, any_large, too_large}
+use Rattle.chain_index.specs.Bundle.Totals.{total_of}
+use Rattle.chain_index.proofs.FromBundle.AmountLaws.{sums_are_of_each_token}
+use Rattle.chain_index.specs.EutxoTypes.declared.output.Output.{Output}
+use Rattle.chain_index.specs.LedgerSpec.Genesis.{most, SumsFit, HasLargeSum}
 use Rattle.ledger_kept.specs.GenesisSupport.{IsNatural}
 
 above : (m n : ℤ) → is_large m n ≡ true → most <ℤ (m +ℤ n)

@@ -3,16 +3,16 @@ use Rattle.std.proofs.Common.{◌≡◌, ℕ, zero, suc, ◌+◌, ◌≤◌, Boo
 use Rattle.std.specs.Prelude.{if◌then◌else◌, nat_eq, OnErr}
 use Rattle.std.proofs.lemmas.List.{map-append, drop-map}
 use Rattle.std.proofs.lemmas.List.Sums.{sum_by-append, count_by-le-length}
-use Rattle.eutxo_types.specs.declared.tx.Tx.{Tx}
-use Rattle.ledger.specs.declared.call.Call.{Call}
-use Rattle.ledger.specs.declared.call.Call.TheVariants as on
-use Rattle.ledger.specs.declared.call.Entry.{Entry}
-use Rattle.ledger.specs.declared.call.Reply.{Reply}
-use Rattle.ledger.specs.declared.call.Ticketed.{Ticketed}
-use Rattle.ledger.specs.Replies.{is_advanced, is_accepted, ticket_in, verdicts_in, accepts}
-use Rattle.ledger_spec.specs.Legal.{with_entry}
-use Rattle.ledger_spec.specs.Replay.{Pending, Replay, Course, pending_entry, accepted_among, with_pending, after_call, gives_ticket, tickets, count_of, world}
-use Rattle.ledger_spec.proofs.ReplayLaws.{replay_after}
+use Rattle.chain_index.specs.EutxoTypes.declared.tx.Tx.{Tx}
+use Rattle.chain_index.specs.Ledger.declared.call.Call.{Call}
+use Rattle.chain_index.specs.Ledger.declared.call.Call.TheVariants as on
+use Rattle.chain_index.specs.Ledger.declared.call.Entry.{Entry}
+use Rattle.chain_index.specs.Ledger.declared.call.Reply.{Reply}
+use Rattle.chain_index.specs.Ledger.declared.call.Ticketed.{Ticketed}
+use Rattle.chain_index.specs.Ledger.Replies.{is_advanced, is_accepted, ticket_in, verdicts_in, accepts}
+use Rattle.chain_index.specs.LedgerSpec.Legal.{with_entry}
+use Rattle.chain_index.specs.LedgerSpec.Replay.{Pending, Replay, Course, pending_entry, accepted_among, with_pending, after_call, gives_ticket, tickets, count_of, world}
+use Rattle.chain_index.proofs.FromLedgerSpec.ReplayLaws.{replay_after}
 use Rattle.ledger_kept.specs.declared.tally.Waiting.{Waiting}
 use Rattle.ledger_kept.specs.Kept.{text_in, text_at, Tally, counted, with_text, pending_text, IsTally}
 use Rattle.ledger_kept.specs.TallySupport.{entries_among, waiting_at, with_waiting, tally_after, tickets_with, IsCounted}

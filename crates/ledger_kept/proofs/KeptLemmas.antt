@@ -2,9 +2,9 @@
 use Rattle.std.proofs.Common.{◌≡◌, ℕ, zero, suc, ◌<◌, List, [], ◌∷◌, map, length, get_or, refl, sym, ◌∙◌, ap, arith, Option, Some, None}
 use Rattle.std.specs.Prelude.{is_some, IsSome}
 use Rattle.std.specs.List.{slice_get}
-use Rattle.eutxo_types.specs.declared.tx.Tx.{Tx}
-use Rattle.ledger.specs.declared.call.Entry.{Entry}
-use Rattle.ledger_spec.specs.Replay.{Pending, pending_entry}
+use Rattle.chain_index.specs.EutxoTypes.declared.tx.Tx.{Tx}
+use Rattle.chain_index.specs.Ledger.declared.call.Entry.{Entry}
+use Rattle.chain_index.specs.LedgerSpec.Replay.{Pending, pending_entry}
 use Rattle.ledger_kept.specs.declared.tally.Waiting.{Waiting}
 use Rattle.ledger_kept.specs.Kept.{text_at, with_text, pending_text}
 use Rattle.ledger_kept.proofs.KeepLemmas.{there, AreWaiting, AreTexts, same_head, same_tail}

@@ -3,3 +3,5 @@ mod RoundLemmas
 mod KeepLemmas
 mod KeptLemmas
 mod GenesisLemmas
+pub mod FromLedgerLaws
+pub mod FromLedgerSpec

@@ -2,7 +2,7 @@
 use Rattle.std.proofs.Common.{◌≡◌, ℕ, zero, suc, ◌+◌, ◌<◌, ◌≤◌, List, [], ◌∷◌, ◌++◌, refl, sym, ◌∙◌, ap, append_assoc, arith, drop, length, get_or}
 use Rattle.std.specs.List.{slice_get}
 use Rattle.std.proofs.lemmas.List.{at_drop_more, append-nil, drop_all}
-use Rattle.ledger.specs.declared.call.Ticketed.{Ticketed}
+use Rattle.chain_index.specs.Ledger.declared.call.Ticketed.{Ticketed}
 use Rattle.ledger_kept.specs.declared.tally.Waiting.{Waiting}
 use Rattle.ledger_kept.specs.TallySupport.{entry_at, entries_among}
 

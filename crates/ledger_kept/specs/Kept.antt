@@ -2,16 +2,16 @@
 use Rattle.std.specs.Prelude.{◌≡◌, ℕ, ℤ, List, length, map, All, slice_get, Option, Some, None, nat_eq}
 use Rattle.std.specs.Map.{lookup}
 use Rattle.std.specs.Option.{unwrap_or}
-use Rattle.eutxo_types.specs.declared.tx.Tx.{Tx}
-use Rattle.eutxo_types.specs.Fitting.{TxFits}
-use Rattle.roles.specs.Steps.{marlowe}
-use Rattle.ledger_laws.specs.Sound.{IsSound}
-use Rattle.ledger.specs.declared.call.Call.{Call}
-use Rattle.ledger.specs.declared.call.Call.TheVariants as on
-use Rattle.ledger.specs.declared.call.Entry.{Entry}
-use Rattle.ledger_spec.specs.Replay.{Pending, World, Course, count_of, after_call, world, past_of, published_at}
-use Rattle.ledger_spec.specs.Legal.{with_entry}
-use Rattle.ledger_spec.specs.Calls.{reply_to, published_with}
+use Rattle.chain_index.specs.EutxoTypes.declared.tx.Tx.{Tx}
+use Rattle.chain_index.specs.EutxoTypes.Fitting.{TxFits}
+use Rattle.chain_index.specs.Roles.Steps.{marlowe}
+use Rattle.chain_index.specs.LedgerLaws.Sound.{IsSound}
+use Rattle.chain_index.specs.Ledger.declared.call.Call.{Call}
+use Rattle.chain_index.specs.Ledger.declared.call.Call.TheVariants as on
+use Rattle.chain_index.specs.Ledger.declared.call.Entry.{Entry}
+use Rattle.chain_index.specs.LedgerSpec.Replay.{Pending, World, Course, count_of, after_call, world, past_of, published_at}
+use Rattle.chain_index.specs.LedgerSpec.Legal.{with_entry}
+use Rattle.chain_index.specs.LedgerSpec.Calls.{reply_to, published_with}
 use Rattle.chain_index.specs.Contents.{Contents, contents_of}
 use Rattle.ledger_kept.specs.declared.tally.Waiting.{Waiting}
 

@@ -1,11 +1,11 @@
 -- No reader needs this file: it serves how a tally is brought on by an entry.
 use Rattle.std.specs.Prelude.{◌≡◌, ℕ, ◌+◌, List, [], ◌∷◌, ◌++◌, drop, if◌then◌else◌, nat_eq, is_some, Option, Some, None}
-use Rattle.ledger.specs.declared.call.Call.{Call}
-use Rattle.ledger.specs.declared.call.Call.TheVariants as on
-use Rattle.ledger.specs.declared.call.Entry.{Entry}
-use Rattle.ledger.specs.declared.call.Reply.{Reply}
-use Rattle.ledger.specs.declared.call.Ticketed.{Ticketed}
-use Rattle.ledger.specs.Replies.{is_advanced, is_accepted, ticket_in, verdicts_in, accepts}
+use Rattle.chain_index.specs.Ledger.declared.call.Call.{Call}
+use Rattle.chain_index.specs.Ledger.declared.call.Call.TheVariants as on
+use Rattle.chain_index.specs.Ledger.declared.call.Entry.{Entry}
+use Rattle.chain_index.specs.Ledger.declared.call.Reply.{Reply}
+use Rattle.chain_index.specs.Ledger.declared.call.Ticketed.{Ticketed}
+use Rattle.chain_index.specs.Ledger.Replies.{is_advanced, is_accepted, ticket_in, verdicts_in, accepts}
 use Rattle.ledger_kept.specs.declared.tally.Waiting.{Waiting}
 use Rattle.ledger_kept.specs.Kept.{Tally, counted}
 

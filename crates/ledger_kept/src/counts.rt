@@ -4,7 +4,7 @@ ghost use Rattle.std.specs.Map.{lookup};
 ghost use Rattle.ledger_kept.specs.Kept.{counted};
 ghost use Rattle.ledger_kept.specs.TallySupport.{HasOneMore};
 
-use collections::Memory;
+use contract::Memory;
 use indexmap::IndexMap;
 use std::alloc::AllocError;
 

@@ -1,14 +1,12 @@
 //! With which outputs a history may begin.
 ghost use Rattle.std.specs.Prelude.{◌↔◌, All, IfOk, IfErr, IsTrue};
 ghost use Rattle.std.specs.Bool.{MatchBool};
-ghost use Rattle.ledger_laws.specs.Sound.{AreKeys};
+ghost use Rattle.chain_index.specs.LedgerLaws.Sound.{AreKeys};
 ghost use Rattle.ledger_kept.specs.GenesisSupport.{IsNatural};
-ghost use Rattle.ledger_spec.specs.Genesis.{SumsFit, HasLargeSum, RefusesGenesis};
+ghost use Rattle.chain_index.specs.LedgerSpec.Genesis.{SumsFit, HasLargeSum, RefusesGenesis};
 
-use bundle::{Bundle, BundleFault};
-use collections::Memory;
-use eutxo_types::Output;
-use ledger_spec::GenesisFault;
+use chain_index::{Bundle, BundleFault, GenesisFault, Output};
+use contract::Memory;
 use std::alloc::{AllocError, Global};
 
 fn are_keys(outputs: &[Output]) -> bool

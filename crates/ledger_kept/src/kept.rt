@@ -1,14 +1,11 @@
 //! What a ledger keeps, lent to what answers a call.
 ghost use Rattle.std.specs.Prelude.{◌≡◌, ◌<◌, Some, length, slice_get, option_copied};
-ghost use Rattle.ledger_spec.specs.Replay.{pending_entry, world};
+ghost use Rattle.chain_index.specs.LedgerSpec.Replay.{pending_entry, world};
 ghost use Rattle.ledger_kept.specs.Kept.{IsTally};
 
 use crate::tally::Tally;
 use crate::texts::text_at;
-use eutxo::Checked;
-use eutxo_types::{Output, Tx};
-use ledger::Entry;
-use roles::Published;
+use chain_index::{Checked, Entry, Output, Published, Tx};
 use std::marker::Model;
 
 /// What a ledger keeps beside its index, lent: the outputs and the tick that it began with, its entries, and the tally
@@ -25,11 +22,11 @@ pub struct Kept<'a> {
 impl<'a> Model for Kept<'a> {
     ghost use Rattle.std.specs.Coded.{codes};
     ghost use Rattle.contract.specs.contracts.tree.Contract as trees;
-    ghost use Rattle.eutxo_types.specs.contracts.output.Output as outputs;
-    ghost use Rattle.eutxo_types.specs.contracts.tx.Tx as txs;
-    ghost use Rattle.ledger.specs.contracts.ask.Ask as ask_rows;
-    ghost use Rattle.ledger.specs.contracts.look.Look as look_rows;
-    ghost use Rattle.ledger_spec.specs.Replay.{Course};
+    ghost use Rattle.chain_index.specs.EutxoTypes.contracts.output.Output as outputs;
+    ghost use Rattle.chain_index.specs.EutxoTypes.contracts.tx.Tx as txs;
+    ghost use Rattle.chain_index.specs.Ledger.contracts.ask.Ask as ask_rows;
+    ghost use Rattle.chain_index.specs.Ledger.contracts.look.Look as look_rows;
+    ghost use Rattle.chain_index.specs.LedgerSpec.Replay.{Course};
     ghost use Rattle.ledger_kept.specs.Kept.{IsTally};
 
     ghost Value = { Course };

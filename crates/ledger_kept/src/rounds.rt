@@ -3,8 +3,8 @@ ghost use Rattle.std.specs.Prelude.{◌≡◌, ◌++◌, ◌∷◌, ◌+◌, ◌
 ghost use Rattle.ledger_kept.specs.TallySupport.{entry_at, entries_among, waiting_at};
 
 use crate::tally::Waiting;
-use collections::Memory;
-use ledger::{Ticketed, accepts};
+use chain_index::{Ticketed, accepts};
+use contract::Memory;
 use std::alloc::AllocError;
 
 /// Keeps where the text of an accepted transaction stands. A refusal for memory changes nothing.

@@ -1,15 +1,15 @@
 //! What is counted and kept of the entries of a history.
 ghost use Rattle.std.specs.Prelude.{◌≡◌, ◌+◌, ◌<◌, ◌^◌, ℕ, [], OnOk, OnErr, IsSome, length, nat_eq};
 ghost use Rattle.std.specs.Map.{lookup};
-ghost use Rattle.ledger_spec.specs.Replay.{Course};
+ghost use Rattle.chain_index.specs.LedgerSpec.Replay.{Course};
 ghost use Rattle.ledger_kept.specs.Kept.{IsTally, TalliesEntry, counted};
 ghost use Rattle.ledger_kept.specs.TallySupport.{tally_after, IsCounted};
 
 use crate::counts::{SeatCounts, add_one, count_at, make_room};
 use crate::rounds::{accept, accept_among, take_out, wait};
-use collections::Memory;
+use chain_index::{Call, Entry, Reply, is_accepted, is_advanced, ticket_in, verdicts_in};
+use contract::Memory;
 use indexmap::IndexMap;
-use ledger::{Call, Entry, Reply, is_accepted, is_advanced, ticket_in, verdicts_in};
 use std::alloc::Global;
 use std::marker::Model;
 

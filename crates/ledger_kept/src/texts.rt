@@ -2,8 +2,7 @@
 ghost use Rattle.std.specs.Prelude.{◌≡◌, Some, IsSome, slice_get, option_copied};
 ghost use Rattle.ledger_kept.specs.Kept.{text_in, text_at};
 
-use eutxo_types::Tx;
-use ledger::{Call, Entry};
+use chain_index::{Call, Entry, Tx};
 
 fn entry_at(entries: &[Entry], place: usize) -> Option<&Entry>
     ensures { option_copied result ≡ slice_get entries.now place }

@@ -3,26 +3,26 @@ use Rattle.std.proofs.Common.{◌≡◌, ℕ, zero, suc, ◌+◌, ◌<◌, Bool,
 use Rattle.std.specs.Prelude.{if◌then◌else◌, is_some, map}
 use Rattle.std.specs.List.{slice_get, list_any, list_all}
 use Rattle.std.specs.Map.{lookup}
-use Rattle.eutxo_types.specs.declared.fault.TxFault.{TxFault}
-use Rattle.eutxo_types.specs.declared.fault.TxFault.TheVariants.{WrongRedeemer}
-use Rattle.eutxo_types.specs.declared.lock.Lock.{Lock}
-use Rattle.eutxo_types.specs.declared.lock.Lock.TheVariants.{Key, Payout, Contract}
-use Rattle.eutxo_types.specs.declared.output.Output.{Output}
-use Rattle.eutxo_types.specs.declared.output_ref.OutputRef.{OutputRef}
-use Rattle.eutxo_types.specs.declared.output_ref.OutputRef.TheVariants.{Genesis, Made}
-use Rattle.eutxo_types.specs.declared.spend.Spend.{Spend}
-use Rattle.eutxo_types.specs.declared.tx.Tx.{Tx}
-use Rattle.eutxo_types.specs.Ids.{id_of}
-use Rattle.eutxo.specs.Laws.{FoundIsEnough}
-use Rattle.eutxo.specs.Asked.{Judges}
-use Rattle.eutxo.specs.Blocks.{Block, blocks, blocks_on, step_fault, step_fault_unless}
-use Rattle.eutxo.specs.BlockLaws.{AreFresh}
-use Rattle.eutxo.specs.Found.{is_known, all_known, with_outputs, if_known}
-use Rattle.eutxo.specs.Local.{spent_rules, spent_fault, whole_fault}
-use Rattle.eutxo.specs.Rules.{opens, digests_in, Step, steps_of, not_preserved, wrong_datum}
-use Rattle.eutxo_types.specs.Parts.{is_contract, script_in, ContractLock, contract_in, same_bytes, same_ref, is_key, is_step, steps}
+use Rattle.roles.specs.EutxoTypes.declared.fault.TxFault.{TxFault}
+use Rattle.roles.specs.EutxoTypes.declared.fault.TxFault.TheVariants.{WrongRedeemer}
+use Rattle.roles.specs.EutxoTypes.declared.lock.Lock.{Lock}
+use Rattle.roles.specs.EutxoTypes.declared.lock.Lock.TheVariants.{Key, Payout, Contract}
+use Rattle.roles.specs.EutxoTypes.declared.output.Output.{Output}
+use Rattle.roles.specs.EutxoTypes.declared.output_ref.OutputRef.{OutputRef}
+use Rattle.roles.specs.EutxoTypes.declared.output_ref.OutputRef.TheVariants.{Genesis, Made}
+use Rattle.roles.specs.EutxoTypes.declared.spend.Spend.{Spend}
+use Rattle.roles.specs.EutxoTypes.declared.tx.Tx.{Tx}
+use Rattle.roles.specs.EutxoTypes.Ids.{id_of}
+use Rattle.roles.specs.Eutxo.Laws.{FoundIsEnough}
+use Rattle.roles.specs.Eutxo.Asked.{Judges}
+use Rattle.roles.specs.Eutxo.Blocks.{Block, blocks, blocks_on, step_fault, step_fault_unless}
+use Rattle.roles.specs.Eutxo.BlockLaws.{AreFresh}
+use Rattle.roles.specs.Eutxo.Found.{is_known, all_known, with_outputs, if_known}
+use Rattle.roles.specs.Eutxo.Local.{spent_rules, spent_fault, whole_fault}
+use Rattle.roles.specs.Eutxo.Rules.{opens, digests_in, Step, steps_of, not_preserved, wrong_datum}
+use Rattle.roles.specs.EutxoTypes.Parts.{is_contract, script_in, ContractLock, contract_in, same_bytes, same_ref, is_key, is_step, steps}
 use Rattle.ledger_laws.specs.Past.{Past, before, with_references, created_by, created_by_all, created, created_at, is_input_of, is_spent, unspent_at, has_id}
-use Rattle.eutxo.specs.Judgement.{is_unknown}
+use Rattle.roles.specs.Eutxo.Judgement.{is_unknown}
 use Rattle.ledger_laws.specs.Sound.{AreKeys, IsSound}
 use Rattle.ledger_laws.specs.Laws.{IsContractInput}
 use Rattle.ledger_laws.specs.Threads.{blocks_of}

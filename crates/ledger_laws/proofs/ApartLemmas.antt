@@ -2,13 +2,13 @@
 use Rattle.std.proofs.Common.{◌≡◌, ℕ, zero, suc, ◌+◌, ◌<◌, ◌≤◌, List, [], ◌∷◌, ap, arith, subst, Option, Some, None}
 use Rattle.std.specs.Prelude.{map}
 use Rattle.std.specs.List.{slice_get}
-use Rattle.eutxo_types.specs.declared.output.Output.{Output}
-use Rattle.eutxo_types.specs.declared.spend.Spend.{Spend}
-use Rattle.eutxo_types.specs.declared.tx.Tx.{Tx}
-use Rattle.eutxo.specs.Asked.{Judges}
-use Rattle.eutxo.specs.Blocks.{Block, size, blocks, blocks_on}
-use Rattle.eutxo.specs.Found.{with_outputs}
-use Rattle.eutxo.specs.Rules.{Step, steps_of}
+use Rattle.roles.specs.EutxoTypes.declared.output.Output.{Output}
+use Rattle.roles.specs.EutxoTypes.declared.spend.Spend.{Spend}
+use Rattle.roles.specs.EutxoTypes.declared.tx.Tx.{Tx}
+use Rattle.roles.specs.Eutxo.Asked.{Judges}
+use Rattle.roles.specs.Eutxo.Blocks.{Block, size, blocks, blocks_on}
+use Rattle.roles.specs.Eutxo.Found.{with_outputs}
+use Rattle.roles.specs.Eutxo.Rules.{Step, steps_of}
 use Rattle.ledger_laws.specs.Past.{created_at}
 use Rattle.ledger_laws.specs.Laws.{OutputsServeOneContract}
 use Rattle.ledger_laws.proofs.FindingLemmas.{answer}

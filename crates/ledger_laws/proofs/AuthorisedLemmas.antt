@@ -1,16 +1,16 @@
 -- Each party that acts in an accepted step is authorised.
 use Rattle.std.proofs.Common.{◌≡◌, ℕ, true, List, sym, ◌∙◌, ap, Option, Some}
 use Rattle.std.specs.List.{slice_get}
-use Rattle.eutxo_types.specs.declared.output.Output.{Output}
-use Rattle.eutxo_types.specs.declared.spend.Spend.{Spend}
-use Rattle.eutxo_types.specs.declared.tx.Tx.{Tx}
-use Rattle.eutxo.specs.Laws.{FoundIsEnough}
-use Rattle.eutxo.specs.Asked.{Stepping}
-use Rattle.eutxo.specs.Blocks.{answer_by, step_asked, fault_in}
+use Rattle.roles.specs.EutxoTypes.declared.output.Output.{Output}
+use Rattle.roles.specs.EutxoTypes.declared.spend.Spend.{Spend}
+use Rattle.roles.specs.EutxoTypes.declared.tx.Tx.{Tx}
+use Rattle.roles.specs.Eutxo.Laws.{FoundIsEnough}
+use Rattle.roles.specs.Eutxo.Asked.{Stepping}
+use Rattle.roles.specs.Eutxo.Blocks.{answer_by, step_asked, fault_in}
 use Rattle.roles.specs.declared.published.Published.{Published}
 use Rattle.roles.specs.Terms.{terms_of}
 use Rattle.roles.specs.Steps.{marlowe}
-use Rattle.eutxo_types.specs.Parts.{is_step}
+use Rattle.roles.specs.EutxoTypes.Parts.{is_step}
 use Rattle.ledger_laws.specs.Past.{Past, before, unspent_at}
 use Rattle.ledger_laws.specs.Sound.{IsSound}
 use Rattle.ledger_laws.specs.Laws.{IsAuthorised, PartiesAreAuthorised}

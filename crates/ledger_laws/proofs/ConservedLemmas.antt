@@ -6,16 +6,16 @@ use Rattle.std.specs.Map.{lookup}
 use Rattle.std.specs.Cmp.Lexicographic.{bytes_decides}
 use Rattle.std.proofs.lemmas.Int.{ints}
 use Rattle.std.proofs.lemmas.Bool.{ne_eqb}
-use Rattle.collections.specs.Total.{total}
-use Rattle.eutxo_types.specs.declared.output.Output.{Output}
-use Rattle.eutxo_types.specs.declared.output_ref.OutputRef.{OutputRef}
-use Rattle.eutxo_types.specs.declared.output_ref.OutputRef.TheVariants.{Genesis, Made}
-use Rattle.eutxo_types.specs.declared.spend.Spend.{Spend}
-use Rattle.eutxo_types.specs.declared.tx.Tx.{Tx}
-use Rattle.eutxo_types.specs.Ids.{id_of}
-use Rattle.eutxo.specs.Faults.{first_index}
-use Rattle.eutxo.specs.Rules.{is_repeated}
-use Rattle.eutxo_types.specs.Parts.{same_bytes, same_ref}
+use Rattle.contract.specs.Collections.Total.{total}
+use Rattle.roles.specs.EutxoTypes.declared.output.Output.{Output}
+use Rattle.roles.specs.EutxoTypes.declared.output_ref.OutputRef.{OutputRef}
+use Rattle.roles.specs.EutxoTypes.declared.output_ref.OutputRef.TheVariants.{Genesis, Made}
+use Rattle.roles.specs.EutxoTypes.declared.spend.Spend.{Spend}
+use Rattle.roles.specs.EutxoTypes.declared.tx.Tx.{Tx}
+use Rattle.roles.specs.EutxoTypes.Ids.{id_of}
+use Rattle.roles.specs.Eutxo.Faults.{first_index}
+use Rattle.roles.specs.Eutxo.Rules.{is_repeated}
+use Rattle.roles.specs.EutxoTypes.Parts.{same_bytes, same_ref}
 use Rattle.ledger_laws.specs.Past.{Past, with_references, created_by, created_by_all, created, is_input_of, is_spent, unspent, unspent_at, has_id}
 use Rattle.ledger_laws.proofs.PlainLaws.{EachFalse, or_false}
 use Rattle.ledger_laws.proofs.FreshLemmas.{Fresh, fresh}

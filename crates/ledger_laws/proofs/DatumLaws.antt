@@ -4,19 +4,19 @@ use Rattle.std.specs.Prelude.{if◌then◌else◌, count_by, map}
 use Rattle.std.specs.List.{slice_get}
 use Rattle.std.specs.Cmp.Lexicographic.{bytes_decides}
 use Rattle.std.proofs.lemmas.List.Sums.{sum_by-cons}
-use Rattle.names.specs.Equal.{same_bytes}
-use Rattle.machine.specs.declared.datum.Datum.{Datum}
-use Rattle.eutxo_types.specs.declared.fault.TxFault.TheVariants.{WrongDatum}
-use Rattle.eutxo_types.specs.declared.lock.Lock.{Lock}
-use Rattle.eutxo_types.specs.declared.lock.Lock.TheVariants.{Key, Payout, Contract}
-use Rattle.eutxo_types.specs.declared.output.Output.{Output}
-use Rattle.eutxo_types.specs.declared.redeemer.Redeemer.{Redeemer}
-use Rattle.eutxo_types.specs.declared.redeemer.Redeemer.TheVariants as with
-use Rattle.eutxo_types.specs.declared.spend.Spend.{Spend}
-use Rattle.eutxo_types.specs.declared.tx.Tx.{Tx}
-use Rattle.eutxo_types.specs.Digests.{datum_hash}
-use Rattle.eutxo_types.specs.Parts.{is_contract, ContractLock, contract_in, is_step, step_count, contract_count, made_datums, Instance, lock_of, contract_at}
-use Rattle.eutxo.specs.Rules.{opens, digest_in, digests_in, digests_held, first_unlike, wrong_datum}
+use Rattle.contract.specs.Names.Equal.{same_bytes}
+use Rattle.roles.specs.Machine.declared.datum.Datum.{Datum}
+use Rattle.roles.specs.EutxoTypes.declared.fault.TxFault.TheVariants.{WrongDatum}
+use Rattle.roles.specs.EutxoTypes.declared.lock.Lock.{Lock}
+use Rattle.roles.specs.EutxoTypes.declared.lock.Lock.TheVariants.{Key, Payout, Contract}
+use Rattle.roles.specs.EutxoTypes.declared.output.Output.{Output}
+use Rattle.roles.specs.EutxoTypes.declared.redeemer.Redeemer.{Redeemer}
+use Rattle.roles.specs.EutxoTypes.declared.redeemer.Redeemer.TheVariants as with
+use Rattle.roles.specs.EutxoTypes.declared.spend.Spend.{Spend}
+use Rattle.roles.specs.EutxoTypes.declared.tx.Tx.{Tx}
+use Rattle.roles.specs.EutxoTypes.Digests.{datum_hash}
+use Rattle.roles.specs.EutxoTypes.Parts.{is_contract, ContractLock, contract_in, is_step, step_count, contract_count, made_datums, Instance, lock_of, contract_at}
+use Rattle.roles.specs.Eutxo.Rules.{opens, digest_in, digests_in, digests_held, first_unlike, wrong_datum}
 use Rattle.ledger_laws.proofs.PlainLaws.{EachFalse, not_false, same_some}
 use Rattle.ledger_laws.proofs.PartLaws.{under_so, instance_so}
 use Rattle.ledger_laws.proofs.JudgedLemmas.{mapped_none}

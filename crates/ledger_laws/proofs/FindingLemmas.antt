@@ -2,20 +2,20 @@
 use Rattle.std.proofs.Common.{◌≡◌, ℕ, zero, suc, ◌+◌, Bool, true, false, List, [], ◌∷◌, refl, ◌∙◌, ap, subst, Option, Some, None}
 use Rattle.std.specs.Prelude.{if◌then◌else◌, nat_lt}
 use Rattle.std.specs.List.{slice_get, cons_option}
-use Rattle.eutxo_types.specs.declared.fault.TxFault.{TxFault}
-use Rattle.eutxo_types.specs.declared.output.Output.{Output}
-use Rattle.eutxo_types.specs.declared.output_ref.OutputRef.{OutputRef}
-use Rattle.eutxo_types.specs.declared.spend.Spend.{Spend}
-use Rattle.eutxo_types.specs.declared.tx.Tx.{Tx}
-use Rattle.eutxo_types.specs.Numbers.{number}
-use Rattle.eutxo_types.specs.Parts.{same_ref}
-use Rattle.eutxo.specs.declared.validator.StepAnswer.{StepAnswer}
-use Rattle.eutxo.specs.Asked.{Judges}
-use Rattle.eutxo.specs.Blocks.{Block, size, answer_by, step_asked, blocks, continues, goes_on_at, stands_from, fault_in, lower, lowest, faults_in, stray_contract, block_fault, step_fault}
-use Rattle.eutxo.specs.BlockLaws.{AllDiffer, AreFresh}
-use Rattle.eutxo.specs.Faults.{or_else}
-use Rattle.eutxo.specs.Rules.{Step}
-use Rattle.eutxo.proofs.SameRefLaws.{same_ref-refl}
+use Rattle.roles.specs.EutxoTypes.declared.fault.TxFault.{TxFault}
+use Rattle.roles.specs.EutxoTypes.declared.output.Output.{Output}
+use Rattle.roles.specs.EutxoTypes.declared.output_ref.OutputRef.{OutputRef}
+use Rattle.roles.specs.EutxoTypes.declared.spend.Spend.{Spend}
+use Rattle.roles.specs.EutxoTypes.declared.tx.Tx.{Tx}
+use Rattle.roles.specs.EutxoTypes.Numbers.{number}
+use Rattle.roles.specs.EutxoTypes.Parts.{same_ref}
+use Rattle.roles.specs.Eutxo.declared.validator.StepAnswer.{StepAnswer}
+use Rattle.roles.specs.Eutxo.Asked.{Judges}
+use Rattle.roles.specs.Eutxo.Blocks.{Block, size, answer_by, step_asked, blocks, continues, goes_on_at, stands_from, fault_in, lower, lowest, faults_in, stray_contract, block_fault, step_fault}
+use Rattle.roles.specs.Eutxo.BlockLaws.{AllDiffer, AreFresh}
+use Rattle.roles.specs.Eutxo.Faults.{or_else}
+use Rattle.roles.specs.Eutxo.Rules.{Step}
+use Rattle.roles.proofs.FromEutxo.SameRefLaws.{same_ref-refl}
 use Rattle.ledger_laws.proofs.PlainLaws.{same_some}
 
 -- ---- no block has a fault

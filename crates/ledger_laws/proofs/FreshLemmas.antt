@@ -3,10 +3,10 @@ use Rattle.std.proofs.Common.{◌≡◌, ℕ, ◌+◌, Bool, true, false, List, 
 use Rattle.std.specs.Prelude.{if◌then◌else◌}
 use Rattle.std.specs.List.{list_any}
 use Rattle.std.proofs.lemmas.List.Folds.{list_any-append}
-use Rattle.eutxo_types.specs.declared.spend.Spend.{Spend}
-use Rattle.eutxo.specs.Faults.{first_index}
-use Rattle.eutxo.specs.Rules.{is_repeated}
-use Rattle.eutxo_types.specs.Parts.{same_ref}
+use Rattle.roles.specs.EutxoTypes.declared.spend.Spend.{Spend}
+use Rattle.roles.specs.Eutxo.Faults.{first_index}
+use Rattle.roles.specs.Eutxo.Rules.{is_repeated}
+use Rattle.roles.specs.EutxoTypes.Parts.{same_ref}
 use Rattle.ledger_laws.proofs.PlainLaws.{EachFalse, or_false}
 
 -- no input names what an earlier one names

@@ -2,22 +2,22 @@
 use Rattle.std.proofs.Common.{◌≡◌, ℕ, Bool, true, false, ◌&&◌, List, [], refl, sym, ◌∙◌, ap, subst, Option, Some, None}
 use Rattle.std.specs.List.{slice_get}
 use Rattle.std.proofs.lemmas.Bool.{eqb-true}
-use Rattle.collections.proofs.SameLaws.{same_by_decides}
-use Rattle.semantics.specs.Laws.{TurnsLead}
-use Rattle.nodes.specs.declared.cont.Cont.{Cont}
-use Rattle.bundle.specs.contracts.bundle.Bundle as bundles
-use Rattle.machine.specs.declared.datum.Datum.{Datum}
-use Rattle.eutxo_types.specs.declared.fault.TxFault.TheVariants.{WrongStart}
-use Rattle.eutxo_types.specs.declared.output.Output.{Output}
-use Rattle.eutxo_types.specs.declared.output_ref.OutputRef.{OutputRef}
-use Rattle.eutxo_types.specs.declared.spend.Spend.{Spend}
-use Rattle.eutxo_types.specs.declared.tx.Tx.{Tx}
-use Rattle.eutxo_types.specs.Parts.{is_contract, contract_in, Instance, lock_of, contract_at, steps}
-use Rattle.eutxo.specs.Laws.{FoundIsEnough}
-use Rattle.eutxo.specs.Asked.{Stepping}
-use Rattle.eutxo.specs.Blocks.{answer_by, step_asked, continues, fault_in, step_fault}
-use Rattle.eutxo.specs.BlockLaws.{BlocksTell}
-use Rattle.eutxo.specs.Rules.{Step, starts_wrong, starts_wrong_at}
+use Rattle.contract.proofs.FromCollections.SameLaws.{same_by_decides}
+use Rattle.roles.specs.Semantics.Laws.{TurnsLead}
+use Rattle.roles.specs.Nodes.declared.cont.Cont.{Cont}
+use Rattle.roles.specs.Bundle.contracts.bundle.Bundle as bundles
+use Rattle.roles.specs.Machine.declared.datum.Datum.{Datum}
+use Rattle.roles.specs.EutxoTypes.declared.fault.TxFault.TheVariants.{WrongStart}
+use Rattle.roles.specs.EutxoTypes.declared.output.Output.{Output}
+use Rattle.roles.specs.EutxoTypes.declared.output_ref.OutputRef.{OutputRef}
+use Rattle.roles.specs.EutxoTypes.declared.spend.Spend.{Spend}
+use Rattle.roles.specs.EutxoTypes.declared.tx.Tx.{Tx}
+use Rattle.roles.specs.EutxoTypes.Parts.{is_contract, contract_in, Instance, lock_of, contract_at, steps}
+use Rattle.roles.specs.Eutxo.Laws.{FoundIsEnough}
+use Rattle.roles.specs.Eutxo.Asked.{Stepping}
+use Rattle.roles.specs.Eutxo.Blocks.{answer_by, step_asked, continues, fault_in, step_fault}
+use Rattle.roles.specs.Eutxo.BlockLaws.{BlocksTell}
+use Rattle.roles.specs.Eutxo.Rules.{Step, starts_wrong, starts_wrong_at}
 use Rattle.roles.specs.declared.published.Published.{Published}
 use Rattle.roles.specs.Terms.{IsTable, terms_of}
 use Rattle.roles.specs.Steps.{same_cont, is_fresh, same_amounts, starts_from, step_of, marlowe}

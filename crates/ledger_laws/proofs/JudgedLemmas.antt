@@ -4,21 +4,21 @@ use Rattle.std.specs.Prelude.{if◌then◌else◌, is_none, map}
 use Rattle.std.specs.List.{slice_get, list_any, list_all, position, position_from}
 use Rattle.std.specs.Option.{option_map}
 use Rattle.std.proofs.lemmas.Iterator.Adapters.{position_from-zero}
-use Rattle.eutxo_types.specs.declared.fault.TxFault.{TxFault}
-use Rattle.eutxo_types.specs.declared.fault.TxFault.TheVariants.{RepeatedInput, NotUnspent, IdInUse, UnknownScript}
-use Rattle.eutxo_types.specs.declared.output.Output.{Output}
-use Rattle.eutxo_types.specs.declared.output_ref.OutputRef.{OutputRef}
-use Rattle.eutxo_types.specs.declared.spend.Spend.{Spend}
-use Rattle.eutxo_types.specs.declared.tx.Tx.{Tx}
-use Rattle.eutxo_types.specs.Ids.{id_of}
-use Rattle.eutxo.specs.Faults.{first_of, first_index}
-use Rattle.eutxo.specs.Rules.{no_inputs, too_many, repeated_input, is_repeated}
-use Rattle.eutxo.specs.Found.{is_known, with_outputs, if_known}
-use Rattle.eutxo.specs.Local.{tx_fault, whole_fault, local}
-use Rattle.eutxo.specs.Asked.{Judges}
-use Rattle.eutxo.specs.Judgement.{Moment, not_unspent, id_in_use, outside_interval, is_unknown, unknown_script, judge}
-use Rattle.eutxo.specs.Judgement as judgement
-use Rattle.eutxo.specs.Laws.{FoundIsEnough}
+use Rattle.roles.specs.EutxoTypes.declared.fault.TxFault.{TxFault}
+use Rattle.roles.specs.EutxoTypes.declared.fault.TxFault.TheVariants.{RepeatedInput, NotUnspent, IdInUse, UnknownScript}
+use Rattle.roles.specs.EutxoTypes.declared.output.Output.{Output}
+use Rattle.roles.specs.EutxoTypes.declared.output_ref.OutputRef.{OutputRef}
+use Rattle.roles.specs.EutxoTypes.declared.spend.Spend.{Spend}
+use Rattle.roles.specs.EutxoTypes.declared.tx.Tx.{Tx}
+use Rattle.roles.specs.EutxoTypes.Ids.{id_of}
+use Rattle.roles.specs.Eutxo.Faults.{first_of, first_index}
+use Rattle.roles.specs.Eutxo.Rules.{no_inputs, too_many, repeated_input, is_repeated}
+use Rattle.roles.specs.Eutxo.Found.{is_known, with_outputs, if_known}
+use Rattle.roles.specs.Eutxo.Local.{tx_fault, whole_fault, local}
+use Rattle.roles.specs.Eutxo.Asked.{Judges}
+use Rattle.roles.specs.Eutxo.Judgement.{Moment, not_unspent, id_in_use, outside_interval, is_unknown, unknown_script, judge}
+use Rattle.roles.specs.Eutxo.Judgement as judgement
+use Rattle.roles.specs.Eutxo.Laws.{FoundIsEnough}
 use Rattle.ledger_laws.specs.Past.{Past, unspent_at, has_id}
 use Rattle.ledger_laws.specs.Sound.{moment}
 use Rattle.ledger_laws.proofs.PlainLaws.{EachFalse, not_false, both, same_some}

@@ -4,33 +4,33 @@ use Rattle.std.specs.Prelude.{if◌then◌else◌, All}
 use Rattle.std.specs.List.{slice_get, filter_map, find}
 use Rattle.std.specs.Cmp.Lexicographic.{bytes_decides}
 use Rattle.std.proofs.lemmas.List.Elements.{All-nil, All-cons}
-use Rattle.collections.proofs.SameLaws.{same_by_decides}
-use Rattle.names.specs.declared.party.Party.{Party}
+use Rattle.contract.proofs.FromCollections.SameLaws.{same_by_decides}
+use Rattle.contract.specs.Names.declared.party.Party.{Party}
 use Rattle.contract.specs.declared.fault.SemFault.{SemFault}
 use Rattle.contract.specs.declared.fault.SemFault.TheVariants.{NoMatch}
-use Rattle.states.specs.States.{StateMaps}
+use Rattle.contract.specs.States.States.{StateMaps}
 use Rattle.contract.specs.Tree.{ContractTree, close}
-use Rattle.evaluation.specs.Numbers.{all_fit}
-use Rattle.semantics.specs.Walk.{Standing, Walk, answer_of}
-use Rattle.semantics.specs.Laws.{TurnsLead}
-use Rattle.bundle.specs.Bundles.{Amounts}
-use Rattle.bundle.specs.contracts.bundle.Bundle as bundles
-use Rattle.machine.specs.declared.datum.Datum.{Datum}
-use Rattle.machine.specs.contracts.datum.Datum as datums
-use Rattle.eutxo.specs.declared.step_fault.StepFault.{StepFault}
-use Rattle.eutxo.specs.declared.step_fault.StepFault.TheVariants.{NotAuthorised, WrongContinuation, WrongPayment}
-use Rattle.eutxo_types.specs.declared.output.Output.{Output}
-use Rattle.eutxo_types.specs.contracts.output.Output as outputs
-use Rattle.eutxo_types.specs.declared.tx.Tx.{Tx}
-use Rattle.eutxo.specs.declared.validator.StepAnswer.TheVariants.{Refused, Takes}
-use Rattle.eutxo.specs.Faults.{first_of}
-use Rattle.eutxo.specs.Blocks.{continues, fault_in}
-use Rattle.eutxo.specs.Asked.{Stepping, refusal_of}
+use Rattle.roles.specs.Evaluation.Numbers.{all_fit}
+use Rattle.roles.specs.Semantics.Walk.{Standing, Walk, answer_of}
+use Rattle.roles.specs.Semantics.Laws.{TurnsLead}
+use Rattle.roles.specs.Bundle.Bundles.{Amounts}
+use Rattle.roles.specs.Bundle.contracts.bundle.Bundle as bundles
+use Rattle.roles.specs.Machine.declared.datum.Datum.{Datum}
+use Rattle.roles.specs.Machine.contracts.datum.Datum as datums
+use Rattle.roles.specs.Eutxo.declared.step_fault.StepFault.{StepFault}
+use Rattle.roles.specs.Eutxo.declared.step_fault.StepFault.TheVariants.{NotAuthorised, WrongContinuation, WrongPayment}
+use Rattle.roles.specs.EutxoTypes.declared.output.Output.{Output}
+use Rattle.roles.specs.EutxoTypes.contracts.output.Output as outputs
+use Rattle.roles.specs.EutxoTypes.declared.tx.Tx.{Tx}
+use Rattle.roles.specs.Eutxo.declared.validator.StepAnswer.TheVariants.{Refused, Takes}
+use Rattle.roles.specs.Eutxo.Faults.{first_of}
+use Rattle.roles.specs.Eutxo.Blocks.{continues, fault_in}
+use Rattle.roles.specs.Eutxo.Asked.{Stepping, refusal_of}
 use Rattle.roles.specs.Terms.{Terms, IsTable}
 use Rattle.roles.specs.Sums.{sums_of}
-use Rattle.table.specs.Flat.{is_close}
+use Rattle.roles.specs.Table.Flat.{is_close}
 use Rattle.roles.specs.Steps.{same_output, same_datum, continuation, due_outputs, actor, authorised, unauthorised, first_unpaid, is_instance, holds_just, goes_on_in, walk_of, not_authorised, wrong_continuation, wrong_payment, outcome_fault, next_datum, by_answer, step_of}
-use Rattle.eutxo_types.specs.Parts.{same_bytes, Instance, lock_of, contract_at}
+use Rattle.roles.specs.EutxoTypes.Parts.{same_bytes, Instance, lock_of, contract_at}
 use Rattle.ledger_laws.specs.Threads.{Effect, LaidOut}
 use Rattle.ledger_laws.proofs.PlainLaws.{and_true, not_false, same_some}
 use Rattle.ledger_laws.proofs.PartLaws.{lock_so}

@@ -4,28 +4,28 @@ use Rattle.std.specs.Prelude.{if◌then◌else◌, is_some}
 use Rattle.std.specs.List.{list_all, position, position_from, slice_get}
 use Rattle.std.specs.Option.{option_map}
 use Rattle.std.proofs.lemmas.Iterator.Adapters.{position_from-zero}
-use Rattle.eutxo_types.specs.declared.fault.TxFault.{TxFault}
-use Rattle.eutxo_types.specs.declared.fault.TxFault.TheVariants.{UnknownScript, WrongStart}
-use Rattle.eutxo_types.specs.declared.lock.Lock.{Lock}
-use Rattle.eutxo_types.specs.declared.lock.Lock.TheVariants.{Key, Payout, Contract}
-use Rattle.eutxo_types.specs.declared.output.Output.{Output}
-use Rattle.eutxo_types.specs.declared.spend.Spend.{Spend}
-use Rattle.eutxo_types.specs.declared.tx.Tx.{Tx}
-use Rattle.eutxo_types.specs.declared.output_ref.OutputRef.{OutputRef}
-use Rattle.eutxo_types.specs.Parts.{same_ref, ContractLock, contract_in, Instance, contract_at}
-use Rattle.machine.specs.declared.datum.Datum.{Datum}
+use Rattle.roles.specs.EutxoTypes.declared.fault.TxFault.{TxFault}
+use Rattle.roles.specs.EutxoTypes.declared.fault.TxFault.TheVariants.{UnknownScript, WrongStart}
+use Rattle.roles.specs.EutxoTypes.declared.lock.Lock.{Lock}
+use Rattle.roles.specs.EutxoTypes.declared.lock.Lock.TheVariants.{Key, Payout, Contract}
+use Rattle.roles.specs.EutxoTypes.declared.output.Output.{Output}
+use Rattle.roles.specs.EutxoTypes.declared.spend.Spend.{Spend}
+use Rattle.roles.specs.EutxoTypes.declared.tx.Tx.{Tx}
+use Rattle.roles.specs.EutxoTypes.declared.output_ref.OutputRef.{OutputRef}
+use Rattle.roles.specs.EutxoTypes.Parts.{same_ref, ContractLock, contract_in, Instance, contract_at}
+use Rattle.roles.specs.Machine.declared.datum.Datum.{Datum}
 use Rattle.std.specs.Map.{lookup}
-use Rattle.eutxo.specs.Laws.{FoundIsEnough}
-use Rattle.eutxo.specs.Faults.{first_of}
-use Rattle.eutxo.specs.Found.{is_known, all_known, if_known}
-use Rattle.eutxo.specs.Blocks.{Block, blocks, blocks_on, goes_on_at, block_fault, step_fault, step_fault_unless}
-use Rattle.eutxo.specs.BlockLaws.{BlocksStay}
-use Rattle.eutxo.specs.OneContract.{AreNamed}
-use Rattle.eutxo.specs.Rules.{Step, or_step, steps_of, starts_wrong, starts_wrong_at, wrong_datum}
-use Rattle.eutxo.specs.Local.{spent_rules, spent_fault, whole_fault}
-use Rattle.eutxo.specs.Asked.{Judges}
+use Rattle.roles.specs.Eutxo.Laws.{FoundIsEnough}
+use Rattle.roles.specs.Eutxo.Faults.{first_of}
+use Rattle.roles.specs.Eutxo.Found.{is_known, all_known, if_known}
+use Rattle.roles.specs.Eutxo.Blocks.{Block, blocks, blocks_on, goes_on_at, block_fault, step_fault, step_fault_unless}
+use Rattle.roles.specs.Eutxo.BlockLaws.{BlocksStay}
+use Rattle.roles.specs.Eutxo.OneContract.{AreNamed}
+use Rattle.roles.specs.Eutxo.Rules.{Step, or_step, steps_of, starts_wrong, starts_wrong_at, wrong_datum}
+use Rattle.roles.specs.Eutxo.Local.{spent_rules, spent_fault, whole_fault}
+use Rattle.roles.specs.Eutxo.Asked.{Judges}
 use Rattle.ledger_laws.specs.Past.{Past, before, after, created_by, created, created_at, unspent_at}
-use Rattle.eutxo.specs.Judgement.{is_unknown, judge}
+use Rattle.roles.specs.Eutxo.Judgement.{is_unknown, judge}
 use Rattle.ledger_laws.specs.Sound.{moment, IsSound, IsMore}
 use Rattle.ledger_laws.specs.Laws.{LaterIsSound, ThreadsStay}
 use Rattle.ledger_laws.specs.Threads.{blocks_of, next_in, next_of}

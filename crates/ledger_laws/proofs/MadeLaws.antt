@@ -2,13 +2,13 @@
 use Rattle.std.proofs.Common.{◌≡◌, ℕ, true, List, sym, ◌∙◌, ap, Option, Some, inl, inr}
 use Rattle.std.specs.List.{slice_get}
 use Rattle.std.specs.Map.{lookup}
-use Rattle.eutxo_types.specs.declared.output.Output.{Output}
-use Rattle.eutxo_types.specs.declared.output_ref.OutputRef.{OutputRef}
-use Rattle.eutxo_types.specs.declared.tx.Tx.{Tx}
-use Rattle.eutxo_types.specs.Ids.{id_of}
-use Rattle.eutxo_types.specs.Parts.{is_contract, ContractLock, contract_in, Instance, lock_of, contract_at, same_ref}
-use Rattle.eutxo.specs.Laws.{FoundIsEnough}
-use Rattle.eutxo.specs.Asked.{Judges}
+use Rattle.roles.specs.EutxoTypes.declared.output.Output.{Output}
+use Rattle.roles.specs.EutxoTypes.declared.output_ref.OutputRef.{OutputRef}
+use Rattle.roles.specs.EutxoTypes.declared.tx.Tx.{Tx}
+use Rattle.roles.specs.EutxoTypes.Ids.{id_of}
+use Rattle.roles.specs.EutxoTypes.Parts.{is_contract, ContractLock, contract_in, Instance, lock_of, contract_at, same_ref}
+use Rattle.roles.specs.Eutxo.Laws.{FoundIsEnough}
+use Rattle.roles.specs.Eutxo.Asked.{Judges}
 use Rattle.ledger_laws.specs.Past.{Past, before, created, unspent_at}
 use Rattle.ledger_laws.specs.Sound.{AreKeys, IsSound}
 use Rattle.ledger_laws.specs.Threads.{IsMade}

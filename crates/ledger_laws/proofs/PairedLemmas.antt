@@ -2,18 +2,18 @@
 use Rattle.std.proofs.Common.{◌≡◌, ℕ, zero, suc, Bool, true, false, not, ◌||◌, List, [], ◌∷◌, ◌++◌, refl, sym, ◌∙◌, ap, Option, Some, None}
 use Rattle.std.specs.Prelude.{is_none, map, if◌then◌else◌}
 use Rattle.std.specs.List.{slice_get, list_any, list_all}
-use Rattle.machine.specs.declared.datum.Datum.{Datum}
-use Rattle.eutxo_types.specs.declared.lock.Lock.{Lock}
-use Rattle.eutxo_types.specs.declared.lock.Lock.TheVariants.{Key, Payout, Contract}
-use Rattle.eutxo_types.specs.declared.output.Output.{Output}
-use Rattle.eutxo_types.specs.declared.output_ref.OutputRef.{OutputRef}
-use Rattle.eutxo_types.specs.declared.redeemer.Redeemer.{Redeemer}
-use Rattle.eutxo_types.specs.declared.redeemer.Redeemer.TheVariants as with
-use Rattle.eutxo_types.specs.declared.spend.Spend.{Spend}
-use Rattle.eutxo_types.specs.Digests.{datum_hash}
-use Rattle.eutxo.specs.Found.{with_output, with_outputs, is_known}
-use Rattle.eutxo.specs.Rules.{opens, digest_in, digests_in, Step, or_step, steps_of}
-use Rattle.eutxo_types.specs.Parts.{given_to, inputs_of, is_contract, ContractLock, contract_in, same_ref, is_step}
+use Rattle.roles.specs.Machine.declared.datum.Datum.{Datum}
+use Rattle.roles.specs.EutxoTypes.declared.lock.Lock.{Lock}
+use Rattle.roles.specs.EutxoTypes.declared.lock.Lock.TheVariants.{Key, Payout, Contract}
+use Rattle.roles.specs.EutxoTypes.declared.output.Output.{Output}
+use Rattle.roles.specs.EutxoTypes.declared.output_ref.OutputRef.{OutputRef}
+use Rattle.roles.specs.EutxoTypes.declared.redeemer.Redeemer.{Redeemer}
+use Rattle.roles.specs.EutxoTypes.declared.redeemer.Redeemer.TheVariants as with
+use Rattle.roles.specs.EutxoTypes.declared.spend.Spend.{Spend}
+use Rattle.roles.specs.EutxoTypes.Digests.{datum_hash}
+use Rattle.roles.specs.Eutxo.Found.{with_output, with_outputs, is_known}
+use Rattle.roles.specs.Eutxo.Rules.{opens, digest_in, digests_in, Step, or_step, steps_of}
+use Rattle.roles.specs.EutxoTypes.Parts.{given_to, inputs_of, is_contract, ContractLock, contract_in, same_ref, is_step}
 use Rattle.ledger_laws.proofs.PlainLaws.{EachFalse, not_both, not_false, both, some_of, same_some, each_at, any_at}
 use Rattle.ledger_laws.proofs.PartLaws.{is_contract_so}
 use Rattle.ledger_laws.proofs.ReferenceLaws.{same_ref_so}

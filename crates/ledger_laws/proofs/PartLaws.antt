@@ -1,12 +1,12 @@
 -- Locks of contracts, and the outputs that have them.
 use Rattle.std.proofs.Common.{◌≡◌, ℕ, zero, suc, true, false, List, [], ◌∷◌, refl, ◌∙◌, ap, Option, Some, None, take, drop}
 use Rattle.std.specs.List.{slice_get}
-use Rattle.machine.specs.declared.datum.Datum.{Datum}
-use Rattle.eutxo_types.specs.declared.lock.Lock.{Lock}
-use Rattle.eutxo_types.specs.declared.lock.Lock.TheVariants.{Key, Payout, Contract}
-use Rattle.eutxo_types.specs.declared.output.Output.{Output}
-use Rattle.eutxo_types.specs.declared.tx.Tx.{Tx}
-use Rattle.eutxo_types.specs.Parts.{is_contract, script_in, ContractLock, contract_in, contract_of, step_count, contract_count, made_datums, Instance, with_datum, contract_at}
+use Rattle.roles.specs.Machine.declared.datum.Datum.{Datum}
+use Rattle.roles.specs.EutxoTypes.declared.lock.Lock.{Lock}
+use Rattle.roles.specs.EutxoTypes.declared.lock.Lock.TheVariants.{Key, Payout, Contract}
+use Rattle.roles.specs.EutxoTypes.declared.output.Output.{Output}
+use Rattle.roles.specs.EutxoTypes.declared.tx.Tx.{Tx}
+use Rattle.roles.specs.EutxoTypes.Parts.{is_contract, script_in, ContractLock, contract_in, contract_of, step_count, contract_count, made_datums, Instance, with_datum, contract_at}
 use Rattle.ledger_laws.proofs.PlainLaws.{same_some}
 
 pub contract_of_lock : (l : Lock) → is_contract l ≡ true → (c : ContractLock) × (contract_in l ≡ Some c)

@@ -3,17 +3,17 @@ use Rattle.std.proofs.Common.{◌≡◌, ℕ, zero, suc, false, not, ℤ, ◌+�
 use Rattle.std.specs.Prelude.{filter}
 use Rattle.std.specs.List.{list_any, slice_get}
 use Rattle.std.specs.FinMap.Entries.{find}
-use Rattle.collections.specs.Total.{total}
-use Rattle.names.specs.declared.token.Token.{Token}
-use Rattle.bundle.specs.Bundles.{amount_of}
-use Rattle.eutxo_types.specs.declared.output.Output.{Output}
-use Rattle.eutxo_types.specs.declared.output_ref.OutputRef.{OutputRef}
-use Rattle.eutxo_types.specs.declared.output_ref.OutputRef.TheVariants.{Genesis}
-use Rattle.eutxo_types.specs.declared.spend.Spend.{Spend}
-use Rattle.eutxo_types.specs.declared.tx.Tx.{Tx}
-use Rattle.eutxo_types.specs.Ids.{id_of}
-use Rattle.eutxo.specs.Laws.{FoundIsEnough, SumsAreTheSame}
-use Rattle.eutxo.specs.Asked.{Judges}
+use Rattle.contract.specs.Collections.Total.{total}
+use Rattle.contract.specs.Names.declared.token.Token.{Token}
+use Rattle.roles.specs.Bundle.Bundles.{amount_of}
+use Rattle.roles.specs.EutxoTypes.declared.output.Output.{Output}
+use Rattle.roles.specs.EutxoTypes.declared.output_ref.OutputRef.{OutputRef}
+use Rattle.roles.specs.EutxoTypes.declared.output_ref.OutputRef.TheVariants.{Genesis}
+use Rattle.roles.specs.EutxoTypes.declared.spend.Spend.{Spend}
+use Rattle.roles.specs.EutxoTypes.declared.tx.Tx.{Tx}
+use Rattle.roles.specs.EutxoTypes.Ids.{id_of}
+use Rattle.roles.specs.Eutxo.Laws.{FoundIsEnough, SumsAreTheSame}
+use Rattle.roles.specs.Eutxo.Asked.{Judges}
 use Rattle.ledger_laws.specs.Past.{Past, before, with_references, is_spent, unspent, unspent_at, has_id}
 use Rattle.ledger_laws.specs.Sound.{IsSound}
 use Rattle.ledger_laws.specs.Laws.{TokensArePreserved}

@@ -7,13 +7,13 @@ use Rattle.std.specs.Cmp.Lexicographic.{bytes_decides}
 use Rattle.std.proofs.lemmas.Bool.{eq-eqb, ne_eqb}
 use Rattle.std.proofs.lemmas.List.Folds.{list_any-append}
 use Rattle.std.proofs.lemmas.Map.Entries.{lookup-filter-keys}
-use Rattle.eutxo_types.specs.declared.output.Output.{Output}
-use Rattle.eutxo_types.specs.declared.output_ref.OutputRef.{OutputRef}
-use Rattle.eutxo_types.specs.declared.output_ref.OutputRef.TheVariants.{Genesis, Made}
-use Rattle.eutxo_types.specs.declared.tx.Tx.{Tx}
-use Rattle.eutxo_types.specs.Ids.{id_of}
-use Rattle.eutxo_types.specs.Parts.{same_bytes, same_ref}
-pub use Rattle.eutxo.proofs.SameRefLaws.{same_ref_so, same_ref-refl}
+use Rattle.roles.specs.EutxoTypes.declared.output.Output.{Output}
+use Rattle.roles.specs.EutxoTypes.declared.output_ref.OutputRef.{OutputRef}
+use Rattle.roles.specs.EutxoTypes.declared.output_ref.OutputRef.TheVariants.{Genesis, Made}
+use Rattle.roles.specs.EutxoTypes.declared.tx.Tx.{Tx}
+use Rattle.roles.specs.EutxoTypes.Ids.{id_of}
+use Rattle.roles.specs.EutxoTypes.Parts.{same_bytes, same_ref}
+pub use Rattle.roles.proofs.FromEutxo.SameRefLaws.{same_ref_so, same_ref-refl}
 use Rattle.ledger_laws.specs.Past.{Past, before, with_references, created_by, created_by_all, created, is_input_of, is_spent, unspent_at, has_id}
 use Rattle.ledger_laws.proofs.PlainLaws.{or_false, same_some, no_more}
 

@@ -5,27 +5,27 @@ use Rattle.std.specs.List.{slice_get}
 use Rattle.contract.specs.declared.fault.SemFault.{SemFault}
 use Rattle.contract.specs.declared.interval.Interval.{Interval}
 use Rattle.contract.specs.declared.input.Input.{Input}
-use Rattle.states.specs.States.{StateMaps}
+use Rattle.contract.specs.States.States.{StateMaps}
 use Rattle.contract.specs.Tree.{ContractTree, close, pay, if_obs, when, let_be, assert}
-use Rattle.semantics.specs.Walk.{Standing, standing, Walk, answer_of}
-use Rattle.semantics.specs.Computed.{computed}
-use Rattle.semantics.specs.Laws.{TurnsLead}
-use Rattle.machine.specs.declared.datum.Datum.{Datum}
-use Rattle.eutxo_types.specs.declared.output_ref.OutputRef.{OutputRef}
-use Rattle.eutxo_types.specs.declared.output_ref.OutputRef.TheVariants.{Made}
-use Rattle.eutxo_types.specs.declared.tx.Tx.{Tx}
-use Rattle.eutxo_types.specs.Ids.{id_of}
-use Rattle.eutxo.specs.Laws.{FoundIsEnough}
-use Rattle.eutxo.specs.Asked.{Stepping}
-use Rattle.eutxo.specs.Blocks.{answer_by, step_asked, continues, stands_from, fault_in}
-use Rattle.eutxo.specs.Faults.{first_of}
+use Rattle.roles.specs.Semantics.Walk.{Standing, standing, Walk, answer_of}
+use Rattle.roles.specs.Semantics.Computed.{computed}
+use Rattle.roles.specs.Semantics.Laws.{TurnsLead}
+use Rattle.roles.specs.Machine.declared.datum.Datum.{Datum}
+use Rattle.roles.specs.EutxoTypes.declared.output_ref.OutputRef.{OutputRef}
+use Rattle.roles.specs.EutxoTypes.declared.output_ref.OutputRef.TheVariants.{Made}
+use Rattle.roles.specs.EutxoTypes.declared.tx.Tx.{Tx}
+use Rattle.roles.specs.EutxoTypes.Ids.{id_of}
+use Rattle.roles.specs.Eutxo.Laws.{FoundIsEnough}
+use Rattle.roles.specs.Eutxo.Asked.{Stepping}
+use Rattle.roles.specs.Eutxo.Blocks.{answer_by, step_asked, continues, stands_from, fault_in}
+use Rattle.roles.specs.Eutxo.Faults.{first_of}
 use Rattle.roles.specs.declared.published.Published.{Published}
 use Rattle.roles.specs.Terms.{Terms, terms_of}
-use Rattle.eutxo_types.specs.Parts.{Instance, lock_of, contract_at, given_to}
+use Rattle.roles.specs.EutxoTypes.Parts.{Instance, lock_of, contract_at, given_to}
 use Rattle.ledger_laws.specs.Past.{Past, is_input_of}
 use Rattle.ledger_laws.specs.Sound.{IsSound}
 use Rattle.ledger_laws.specs.Threads.{Link, Effect, Member, Gives, Run, contract_after, state_after, blocks_of, next_in, next_of, spine_by, ends_by, thread, brought_to, brought_by, LaidOut, Carries, IsMade, IsStart}
-use Rattle.table.specs.Flat.{is_close}
+use Rattle.roles.specs.Table.Flat.{is_close}
 use Rattle.roles.specs.Steps.{is_fresh, walk_of, marlowe}
 use Rattle.ledger_laws.specs.Laws.{AreTables, DigestsTellWhatWasMade, EachIsARun, ThreadsAreRuns, EndsWithItsRun, ThreadsEndWithRuns}
 use Rattle.ledger_laws.proofs.PlainLaws.{same_some, head_at}

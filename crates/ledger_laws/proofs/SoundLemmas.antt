@@ -1,8 +1,8 @@
 -- A ledger begins sound, and stays so with what it accepts.
 use Rattle.std.proofs.Common.{◌≡◌, List, sym, subst, Option, Some, None, inl, inr}
-use Rattle.eutxo_types.specs.declared.tx.Tx.{Tx}
-use Rattle.eutxo.specs.Asked.{Judges}
-use Rattle.eutxo.specs.Judgement.{judge}
+use Rattle.roles.specs.EutxoTypes.declared.tx.Tx.{Tx}
+use Rattle.roles.specs.Eutxo.Asked.{Judges}
+use Rattle.roles.specs.Eutxo.Judgement.{judge}
 use Rattle.ledger_laws.specs.Sound.{moment, IsAdmitted}
 use Rattle.ledger_laws.specs.Laws.{StartIsSound, AfterIsSound}
 use Rattle.ledger_laws.proofs.PlainLaws.{get_grown}

@@ -1,11 +1,11 @@
 -- No output is spent twice.
 use Rattle.std.proofs.Common.{◌≡◌, ℕ, zero, suc, ◌<◌, true, List, [], ◌∷◌, refl, ◌∙◌, ap, sym, subst, arith, Option, Some}
 use Rattle.std.specs.List.{slice_get}
-use Rattle.eutxo_types.specs.declared.spend.Spend.{Spend}
-use Rattle.eutxo_types.specs.declared.tx.Tx.{Tx}
-use Rattle.eutxo.specs.Laws.{FoundIsEnough}
-use Rattle.eutxo.specs.Asked.{Judges}
-use Rattle.eutxo_types.specs.Parts.{same_ref}
+use Rattle.roles.specs.EutxoTypes.declared.spend.Spend.{Spend}
+use Rattle.roles.specs.EutxoTypes.declared.tx.Tx.{Tx}
+use Rattle.roles.specs.Eutxo.Laws.{FoundIsEnough}
+use Rattle.roles.specs.Eutxo.Asked.{Judges}
+use Rattle.roles.specs.EutxoTypes.Parts.{same_ref}
 use Rattle.ledger_laws.specs.Past.{Past, before, is_input_of, unspent_at}
 use Rattle.ledger_laws.specs.Sound.{IsSound}
 use Rattle.ledger_laws.specs.Laws.{OutputsAreSpentOnce}

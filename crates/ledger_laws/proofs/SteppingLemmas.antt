@@ -1,14 +1,14 @@
 -- The steps of a transaction whose inputs name each output once, and which spends what they find.
 use Rattle.std.proofs.Common.{◌≡◌, false, List, [], ◌∷◌, refl, sym, ◌∙◌, ap, subst, Option, Some, None}
 use Rattle.std.specs.Prelude.{map}
-use Rattle.machine.specs.declared.datum.Datum.{Datum}
-use Rattle.eutxo_types.specs.declared.output.Output.{Output}
-use Rattle.eutxo_types.specs.declared.output_ref.OutputRef.{OutputRef}
-use Rattle.eutxo_types.specs.declared.spend.Spend.{Spend}
-use Rattle.eutxo_types.specs.Parts.{same_ref, ContractLock, contract_in}
-use Rattle.eutxo.specs.BlockLaws.{AllDiffer, AreFresh}
-use Rattle.eutxo.specs.Found.{with_output, with_outputs}
-use Rattle.eutxo.specs.Rules.{or_step, steps_of}
+use Rattle.roles.specs.Machine.declared.datum.Datum.{Datum}
+use Rattle.roles.specs.EutxoTypes.declared.output.Output.{Output}
+use Rattle.roles.specs.EutxoTypes.declared.output_ref.OutputRef.{OutputRef}
+use Rattle.roles.specs.EutxoTypes.declared.spend.Spend.{Spend}
+use Rattle.roles.specs.EutxoTypes.Parts.{same_ref, ContractLock, contract_in}
+use Rattle.roles.specs.Eutxo.BlockLaws.{AllDiffer, AreFresh}
+use Rattle.roles.specs.Eutxo.Found.{with_output, with_outputs}
+use Rattle.roles.specs.Eutxo.Rules.{or_step, steps_of}
 use Rattle.ledger_laws.proofs.PlainLaws.{EachFalse}
 use Rattle.ledger_laws.proofs.FreshLemmas.{Fresh}
 use Rattle.ledger_laws.proofs.PairedLemmas.{Paired}

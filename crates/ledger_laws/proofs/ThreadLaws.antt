@@ -4,15 +4,15 @@ use Rattle.std.specs.List.{slice_get}
 use Rattle.std.specs.Map.{lookup}
 use Rattle.std.proofs.lemmas.List.{take-append-drop}
 use Rattle.std.proofs.lemmas.List.Folds.{list_any-append}
-use Rattle.eutxo_types.specs.declared.output_ref.OutputRef.{OutputRef}
-use Rattle.eutxo_types.specs.declared.output_ref.OutputRef.TheVariants.{Made}
-use Rattle.eutxo_types.specs.declared.tx.Tx.{Tx}
-use Rattle.eutxo_types.specs.Ids.{id_of}
-use Rattle.eutxo_types.specs.Parts.{same_ref, Instance, lock_of}
-use Rattle.eutxo.specs.Laws.{FoundIsEnough}
-use Rattle.eutxo.specs.Asked.{Judges}
-use Rattle.eutxo.specs.Blocks.{goes_on_at}
-use Rattle.eutxo.specs.BlockLaws.{BlocksTell}
+use Rattle.roles.specs.EutxoTypes.declared.output_ref.OutputRef.{OutputRef}
+use Rattle.roles.specs.EutxoTypes.declared.output_ref.OutputRef.TheVariants.{Made}
+use Rattle.roles.specs.EutxoTypes.declared.tx.Tx.{Tx}
+use Rattle.roles.specs.EutxoTypes.Ids.{id_of}
+use Rattle.roles.specs.EutxoTypes.Parts.{same_ref, Instance, lock_of}
+use Rattle.roles.specs.Eutxo.Laws.{FoundIsEnough}
+use Rattle.roles.specs.Eutxo.Asked.{Judges}
+use Rattle.roles.specs.Eutxo.Blocks.{goes_on_at}
+use Rattle.roles.specs.Eutxo.BlockLaws.{BlocksTell}
 use Rattle.ledger_laws.specs.Past.{Past, created, is_input_of, is_spent}
 use Rattle.ledger_laws.specs.Sound.{IsSound}
 use Rattle.ledger_laws.specs.Threads.{blocks_of, next_of, StartsThread, IsMade, thread_end}

@@ -1,21 +1,21 @@
 -- What holds of every sound past, however a ledger came by it.
 use Rattle.std.specs.Prelude.{◌≡◌, ℕ, ◌+◌, ◌<◌, ◌≤◌, ℤ, true, List, [], map, slice_get, All, Option, Some, None}
 use Rattle.std.specs.List.{filter_map}
-use Rattle.names.specs.declared.token.Token.{Token}
+use Rattle.contract.specs.Names.declared.token.Token.{Token}
 use Rattle.contract.specs.Tree.{ContractTree}
-use Rattle.bundle.specs.Totals.{total_of}
-use Rattle.machine.specs.declared.datum.Datum.{Datum}
-use Rattle.eutxo_types.specs.declared.output.Output.{Output}
-use Rattle.eutxo_types.specs.declared.output_ref.OutputRef.{OutputRef}
-use Rattle.eutxo_types.specs.declared.spend.Spend.{Spend}
-use Rattle.eutxo_types.specs.declared.tx.Tx.{Tx}
-use Rattle.eutxo.specs.Asked.{Judges}
-use Rattle.eutxo.specs.Blocks.{Block, size}
-use Rattle.eutxo.specs.Found.{with_outputs}
-use Rattle.eutxo.specs.Judgement.{judge}
-use Rattle.eutxo_types.specs.Digests.{datum_hash}
-use Rattle.eutxo_types.specs.Ids.{id_of}
-use Rattle.eutxo_types.specs.Parts.{is_contract, ContractLock, contract_in, is_step, inputs_of, Instance, lock_of}
+use Rattle.roles.specs.Bundle.Totals.{total_of}
+use Rattle.roles.specs.Machine.declared.datum.Datum.{Datum}
+use Rattle.roles.specs.EutxoTypes.declared.output.Output.{Output}
+use Rattle.roles.specs.EutxoTypes.declared.output_ref.OutputRef.{OutputRef}
+use Rattle.roles.specs.EutxoTypes.declared.spend.Spend.{Spend}
+use Rattle.roles.specs.EutxoTypes.declared.tx.Tx.{Tx}
+use Rattle.roles.specs.Eutxo.Asked.{Judges}
+use Rattle.roles.specs.Eutxo.Blocks.{Block, size}
+use Rattle.roles.specs.Eutxo.Found.{with_outputs}
+use Rattle.roles.specs.Eutxo.Judgement.{judge}
+use Rattle.roles.specs.EutxoTypes.Digests.{datum_hash}
+use Rattle.roles.specs.EutxoTypes.Ids.{id_of}
+use Rattle.roles.specs.EutxoTypes.Parts.{is_contract, ContractLock, contract_in, is_step, inputs_of, Instance, lock_of}
 use Rattle.roles.specs.declared.published.Published.{Published}
 use Rattle.roles.specs.Terms.{IsTable, terms_of}
 use Rattle.roles.specs.Steps.{actor, authorised, is_fresh, marlowe}

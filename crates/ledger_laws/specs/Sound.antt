@@ -1,10 +1,10 @@
 -- Sound pasts: those of a ledger that began with key outputs, and accepted what the judgement lets pass.
 use Rattle.std.specs.Prelude.{◌≡◌, ℕ, ℤ, true, List, slice_get, All, Option, Some, None}
-use Rattle.eutxo_types.specs.declared.output.Output.{Output}
-use Rattle.eutxo_types.specs.declared.tx.Tx.{Tx}
-use Rattle.eutxo.specs.Asked.{Judges}
-use Rattle.eutxo.specs.Judgement.{Moment, judge}
-use Rattle.eutxo_types.specs.Parts.{is_key}
+use Rattle.roles.specs.EutxoTypes.declared.output.Output.{Output}
+use Rattle.roles.specs.EutxoTypes.declared.tx.Tx.{Tx}
+use Rattle.roles.specs.Eutxo.Asked.{Judges}
+use Rattle.roles.specs.Eutxo.Judgement.{Moment, judge}
+use Rattle.roles.specs.EutxoTypes.Parts.{is_key}
 use Rattle.ledger_laws.specs.Past.{Past, before, unspent_at, is_used}
 
 -- what the rules read after a past, where this is published under ids, at a tick

@@ -5,22 +5,22 @@ use Rattle.contract.specs.declared.interval.Interval.{Interval}
 use Rattle.contract.specs.declared.input.Input.{Input}
 use Rattle.contract.specs.declared.payment.Payment.{Payment}
 use Rattle.contract.specs.declared.warning.Warning.{Warning}
-use Rattle.states.specs.States.{StateMaps}
+use Rattle.contract.specs.States.States.{StateMaps}
 use Rattle.contract.specs.Tree.{ContractTree, close}
-use Rattle.semantics.specs.Walk.{standing, answer_of}
-use Rattle.semantics.specs.Computed.{computed}
-use Rattle.nodes.specs.declared.cont.Cont.{Cont}
-use Rattle.machine.specs.declared.datum.Datum.{Datum}
-use Rattle.eutxo_types.specs.declared.output.Output.{Output}
-use Rattle.eutxo_types.specs.declared.output_ref.OutputRef.{OutputRef}
-use Rattle.eutxo_types.specs.declared.output_ref.OutputRef.TheVariants.{Made}
-use Rattle.eutxo_types.specs.declared.spend.Spend.{Spend}
-use Rattle.eutxo_types.specs.declared.tx.Tx.{Tx}
-use Rattle.eutxo_types.specs.Ids.{id_of}
-use Rattle.eutxo_types.specs.Parts.{Instance, same_ref, is_step, contract_at, given_to, steps, outputs_from}
-use Rattle.eutxo.specs.Asked.{Judges}
-use Rattle.eutxo.specs.Blocks.{Block, blocks_on, goes_on_at, stands_from}
-use Rattle.eutxo.specs.Found.{with_outputs}
+use Rattle.roles.specs.Semantics.Walk.{standing, answer_of}
+use Rattle.roles.specs.Semantics.Computed.{computed}
+use Rattle.roles.specs.Nodes.declared.cont.Cont.{Cont}
+use Rattle.roles.specs.Machine.declared.datum.Datum.{Datum}
+use Rattle.roles.specs.EutxoTypes.declared.output.Output.{Output}
+use Rattle.roles.specs.EutxoTypes.declared.output_ref.OutputRef.{OutputRef}
+use Rattle.roles.specs.EutxoTypes.declared.output_ref.OutputRef.TheVariants.{Made}
+use Rattle.roles.specs.EutxoTypes.declared.spend.Spend.{Spend}
+use Rattle.roles.specs.EutxoTypes.declared.tx.Tx.{Tx}
+use Rattle.roles.specs.EutxoTypes.Ids.{id_of}
+use Rattle.roles.specs.EutxoTypes.Parts.{Instance, same_ref, is_step, contract_at, given_to, steps, outputs_from}
+use Rattle.roles.specs.Eutxo.Asked.{Judges}
+use Rattle.roles.specs.Eutxo.Blocks.{Block, blocks_on, goes_on_at, stands_from}
+use Rattle.roles.specs.Eutxo.Found.{with_outputs}
 use Rattle.roles.specs.declared.published.Published.{Published}
 use Rattle.roles.specs.Terms.{Terms}
 use Rattle.roles.specs.Steps.{continuation, due_outputs, marlowe}

@@ -2,7 +2,7 @@
 ghost use Rattle.ledger_laws.specs.Worked.{NobodyCame, TwoSteps, NoneAfterTheEnd, GivenByName, OneMoves};
 ghost use Rattle.ledger_laws.specs.Laws.{StepsStandOnThreads, StepsSpendContracts, StepsNameContracts, ContractsEndThreads, EndsAreUnspent, ThreadsStay, OutputsServeOneContract, TokensArePreserved, OutputsAreSpentOnce, NamesAreSingle, StartIsSound, AfterIsSound, LaterIsSound};
 
-use eutxo::{Validator, blocks_tell_contracts_apart, found_is_enough, sums_are_preserved};
+use roles::{Validator, blocks_tell_contracts_apart, found_is_enough, sums_are_preserved};
 
 /// Each contract input of an accepted transaction is spent by a member of the thread of exactly one start
 /// output. A contract output is spent by a step alone, and a step spends one. So no contract output is

@@ -1,9 +1,9 @@
 //! Laws of Marlowe's contracts.
 ghost use Rattle.ledger_laws.specs.Laws.{ThreadsAreRuns, ThreadsEndWithRuns, DigestsTellWhatWasMade, ContractsAreFunded, ContractsAreOfTables, PartiesAreAuthorised};
 
-use eutxo::{blocks_tell_contracts_apart, found_is_enough};
-use roles::Published;
-use semantics::turns_lead_to_the_remaining_contract;
+use roles::{
+    Published, blocks_tell_contracts_apart, found_is_enough, turns_lead_to_the_remaining_contract,
+};
 
 /// The thread of each start output carries exactly one list of members, on the contract that was published under its
 /// script: input for input, with the warnings, payments, states and remaining contracts that the transaction function

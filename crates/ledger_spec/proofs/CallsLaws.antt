@@ -1,15 +1,15 @@
 -- What a call accepts, and that what was accepted stays.
 use Rattle.std.proofs.Common.{◌≡◌, ℕ, zero, suc, ℤ, ◌≤◌, Bool, true, false, List, [], ◌∷◌, ◌++◌, refl, sym, ◌∙◌, ap, append_assoc, arith, Option, Some, None, take, drop, length}
 use Rattle.std.specs.Prelude.{if◌then◌else◌, int_le, nat_lt}
-use Rattle.eutxo_types.specs.declared.tx.Tx.{Tx}
-use Rattle.eutxo_types.specs.declared.fault.TxFault.{TxFault}
-use Rattle.eutxo.specs.Local.{verdict_of}
-use Rattle.ledger.specs.declared.call.Call.{Call}
-use Rattle.ledger.specs.declared.call.Call.TheVariants as on
-use Rattle.ledger.specs.declared.call.Entry.{Entry}
-use Rattle.ledger.specs.declared.call.Reply.{Reply}
-use Rattle.ledger.specs.declared.call.Reply.TheVariants as answer
-use Rattle.ledger.specs.Replies.{is_advanced, is_accepted, ticket_in, verdicts_in}
+use Rattle.builder_spec.specs.EutxoTypes.declared.tx.Tx.{Tx}
+use Rattle.builder_spec.specs.EutxoTypes.declared.fault.TxFault.{TxFault}
+use Rattle.builder_spec.specs.Eutxo.Local.{verdict_of}
+use Rattle.builder_spec.specs.Ledger.declared.call.Call.{Call}
+use Rattle.builder_spec.specs.Ledger.declared.call.Call.TheVariants as on
+use Rattle.builder_spec.specs.Ledger.declared.call.Entry.{Entry}
+use Rattle.builder_spec.specs.Ledger.declared.call.Reply.{Reply}
+use Rattle.builder_spec.specs.Ledger.declared.call.Reply.TheVariants as answer
+use Rattle.builder_spec.specs.Ledger.Replies.{is_advanced, is_accepted, ticket_in, verdicts_in}
 use Rattle.std.proofs.lemmas.List.{take-append-drop}
 use Rattle.ledger_laws.proofs.PlainLaws.{no_more}
 use Rattle.ledger_spec.specs.Legal.{before_entry}

@@ -3,14 +3,14 @@ use Rattle.std.proofs.Common.{◌≡◌, ℕ, zero, suc, Bool, true, false, List
 use Rattle.std.specs.Prelude.{if◌then◌else◌}
 use Rattle.std.specs.List.{slice_get}
 use Rattle.std.specs.Cmp.Lexicographic.{bytes_decides}
-use Rattle.eutxo_types.specs.declared.output_ref.OutputRef.{OutputRef}
-use Rattle.eutxo_types.specs.declared.output_ref.OutputRef.TheVariants.{Genesis, Made}
-use Rattle.eutxo_types.specs.declared.tx.Tx.{Tx}
-use Rattle.eutxo_types.specs.Ids.{id_of}
-use Rattle.eutxo_types.specs.Parts.{Instance, contract_at}
-use Rattle.eutxo.specs.Asked.{Judges}
-use Rattle.eutxo.specs.Faults.{first_of}
-use Rattle.eutxo.specs.Laws.{FoundIsEnough}
+use Rattle.builder_spec.specs.EutxoTypes.declared.output_ref.OutputRef.{OutputRef}
+use Rattle.builder_spec.specs.EutxoTypes.declared.output_ref.OutputRef.TheVariants.{Genesis, Made}
+use Rattle.builder_spec.specs.EutxoTypes.declared.tx.Tx.{Tx}
+use Rattle.builder_spec.specs.EutxoTypes.Ids.{id_of}
+use Rattle.builder_spec.specs.EutxoTypes.Parts.{Instance, contract_at}
+use Rattle.builder_spec.specs.Eutxo.Asked.{Judges}
+use Rattle.builder_spec.specs.Eutxo.Faults.{first_of}
+use Rattle.builder_spec.specs.Eutxo.Laws.{FoundIsEnough}
 use Rattle.ledger_laws.specs.Past.{Past, has_id}
 use Rattle.ledger_laws.specs.Sound.{IsSound}
 use Rattle.ledger_laws.specs.Threads.{IsMade}

@@ -1,6 +1,6 @@
 -- A legal history is legal before each of its entries.
 use Rattle.std.proofs.Common.{ℕ, List, sym, subst, arith}
-use Rattle.ledger.specs.declared.call.Entry.{Entry}
+use Rattle.builder_spec.specs.Ledger.declared.call.Entry.{Entry}
 use Rattle.ledger_laws.proofs.PlainLaws.{taken_at, take_twice}
 use Rattle.ledger_spec.specs.Replay.{Course}
 use Rattle.ledger_spec.specs.Legal.{Follows, IsLegal, before_entry}

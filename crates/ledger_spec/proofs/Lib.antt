@@ -7,3 +7,8 @@ pub mod PublishingLaws
 pub mod StepLaws
 mod StandingLemmas
 mod PublishingLemmas
+pub mod FromSemantics
+pub mod FromBundle
+pub mod FromRoles
+pub mod FromBuilderSpec
+pub mod FromLedgerLaws

@@ -4,15 +4,15 @@ use Rattle.std.specs.Prelude.{if◌then◌else◌, is_some}
 use Rattle.std.specs.Option.{option_or}
 use Rattle.std.specs.Cmp.Lexicographic.{bytes_decides}
 use Rattle.std.proofs.lemmas.List.Folds.{find-append}
-use Rattle.compiler.specs.declared.fault.CompileFault.{CompileFault}
-use Rattle.eutxo_types.specs.Parts.{same_bytes}
-use Rattle.roles.specs.declared.published.Published.{Published}
+use Rattle.builder_spec.specs.Compiler.declared.fault.CompileFault.{CompileFault}
+use Rattle.builder_spec.specs.EutxoTypes.Parts.{same_bytes}
+use Rattle.builder_spec.specs.Roles.declared.published.Published.{Published}
 use Rattle.ledger_laws.proofs.PlainLaws.{same_some}
-use Rattle.ledger.specs.declared.call.Call.{Call}
-use Rattle.ledger.specs.declared.call.Call.TheVariants as on
-use Rattle.ledger.specs.declared.call.Entry.{Entry}
-use Rattle.ledger.specs.declared.call.Reply.{Reply}
-use Rattle.ledger.specs.Replies.{is_published}
+use Rattle.builder_spec.specs.Ledger.declared.call.Call.{Call}
+use Rattle.builder_spec.specs.Ledger.declared.call.Call.TheVariants as on
+use Rattle.builder_spec.specs.Ledger.declared.call.Entry.{Entry}
+use Rattle.builder_spec.specs.Ledger.declared.call.Reply.{Reply}
+use Rattle.builder_spec.specs.Ledger.Replies.{is_published}
 use Rattle.ledger_spec.specs.Replay.{published_at, publication, with_object, published_after, published_from}
 
 -- ---- what is found under an id

@@ -2,22 +2,22 @@
 use Rattle.std.proofs.Common.{◌≡◌, ℕ, zero, suc, Bool, true, false, List, [], ◌∷◌, ◌++◌, refl, sym, ◌∙◌, ap, subst, Option, Some, None, Result, Ok, Err, take, drop, length, inl, inr}
 use Rattle.std.specs.Prelude.{if◌then◌else◌, is_some}
 use Rattle.std.specs.List.{slice_get}
-use Rattle.collections.proofs.SameLaws.{same_by_decides}
+use Rattle.contract.proofs.FromCollections.SameLaws.{same_by_decides}
 use Rattle.contract.specs.declared.tree.Contract.{Contract}
 use Rattle.contract.specs.Tree.{contract_tree}
-use Rattle.compiler.specs.declared.fault.CompileFault.{CompileFault}
-use Rattle.compiler.specs.Limits.{compile_fault}
-use Rattle.roles.specs.contracts.published.Published as publications
-use Rattle.roles.specs.declared.published.Published.{Published}
-use Rattle.roles.specs.Publications.{published_of, PublishedAreTables, PublishedTellApart}
-use Rattle.roles.specs.Terms.{IsTable, terms_of}
+use Rattle.builder_spec.specs.Compiler.declared.fault.CompileFault.{CompileFault}
+use Rattle.builder_spec.specs.Compiler.Limits.{compile_fault}
+use Rattle.builder_spec.specs.Roles.contracts.published.Published as publications
+use Rattle.builder_spec.specs.Roles.declared.published.Published.{Published}
+use Rattle.builder_spec.specs.Roles.Publications.{published_of, PublishedAreTables, PublishedTellApart}
+use Rattle.builder_spec.specs.Roles.Terms.{IsTable, terms_of}
 use Rattle.ledger_laws.proofs.PlainLaws.{same_some, not_both, take_none, take_some, take_whole, cut_at}
-use Rattle.ledger.specs.declared.call.Call.{Call}
-use Rattle.ledger.specs.declared.call.Call.TheVariants as on
-use Rattle.ledger.specs.declared.call.Entry.{Entry}
-use Rattle.ledger.specs.declared.call.Reply.{Reply}
-use Rattle.ledger.specs.declared.call.Reply.TheVariants as answer
-use Rattle.ledger.specs.Replies.{is_published}
+use Rattle.builder_spec.specs.Ledger.declared.call.Call.{Call}
+use Rattle.builder_spec.specs.Ledger.declared.call.Call.TheVariants as on
+use Rattle.builder_spec.specs.Ledger.declared.call.Entry.{Entry}
+use Rattle.builder_spec.specs.Ledger.declared.call.Reply.{Reply}
+use Rattle.builder_spec.specs.Ledger.declared.call.Reply.TheVariants as answer
+use Rattle.builder_spec.specs.Ledger.Replies.{is_published}
 use Rattle.ledger_spec.specs.Replay.{Course, World, world, published_at, if_compiled, publication, with_object, published_after, published}
 use Rattle.ledger_spec.specs.Calls.{same_publication, publish_reply_beside, publish_reply, reply_to}
 use Rattle.ledger_spec.specs.Legal.{IsLegal, before_entry}

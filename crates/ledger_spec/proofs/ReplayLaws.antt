@@ -1,6 +1,6 @@
 -- Entries after the entries of a history.
 use Rattle.std.proofs.Common.{◌≡◌, List, [], ◌∷◌, ◌++◌, refl}
-use Rattle.ledger.specs.declared.call.Entry.{Entry}
+use Rattle.builder_spec.specs.Ledger.declared.call.Entry.{Entry}
 use Rattle.ledger_spec.specs.Replay.{Replay, after_call, replay_from}
 
 pub replay_after : (s : Replay) (es : List Entry) (e : Entry) → replay_from s (es ++ e ∷ []) ≡ after_call (replay_from s es) e.call e.reply

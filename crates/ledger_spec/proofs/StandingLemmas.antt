@@ -8,19 +8,19 @@ use Rattle.std.proofs.lemmas.List.Elements.{filter-append, filter_map-append}
 use Rattle.std.proofs.lemmas.List.Folds.{list_any-append}
 use Rattle.std.proofs.lemmas.List.Sums.{sum_by-append}
 use Rattle.std.proofs.lemmas.Option.{slice_get_within}
-use Rattle.compiler.specs.declared.fault.CompileFault.{CompileFault}
-use Rattle.eutxo_types.specs.declared.fault.TxFault.{TxFault}
-use Rattle.eutxo_types.specs.declared.tx.Tx.{Tx}
-use Rattle.eutxo_types.specs.Ids.{id_of}
-use Rattle.eutxo.specs.Local.{verdict_of}
-use Rattle.roles.specs.declared.published.Published.{Published}
-use Rattle.ledger.specs.declared.call.Call.{Call}
-use Rattle.ledger.specs.declared.call.Call.TheVariants as on
-use Rattle.ledger.specs.declared.call.Entry.{Entry}
-use Rattle.ledger.specs.declared.call.Reply.{Reply}
-use Rattle.ledger.specs.declared.call.Reply.TheVariants as answer
-use Rattle.ledger.specs.declared.call.Ticketed.{Ticketed}
-use Rattle.ledger.specs.Replies.{is_accepted, ticket_in, verdicts_in, accepts}
+use Rattle.builder_spec.specs.Compiler.declared.fault.CompileFault.{CompileFault}
+use Rattle.builder_spec.specs.EutxoTypes.declared.fault.TxFault.{TxFault}
+use Rattle.builder_spec.specs.EutxoTypes.declared.tx.Tx.{Tx}
+use Rattle.builder_spec.specs.EutxoTypes.Ids.{id_of}
+use Rattle.builder_spec.specs.Eutxo.Local.{verdict_of}
+use Rattle.builder_spec.specs.Roles.declared.published.Published.{Published}
+use Rattle.builder_spec.specs.Ledger.declared.call.Call.{Call}
+use Rattle.builder_spec.specs.Ledger.declared.call.Call.TheVariants as on
+use Rattle.builder_spec.specs.Ledger.declared.call.Entry.{Entry}
+use Rattle.builder_spec.specs.Ledger.declared.call.Reply.{Reply}
+use Rattle.builder_spec.specs.Ledger.declared.call.Reply.TheVariants as answer
+use Rattle.builder_spec.specs.Ledger.declared.call.Ticketed.{Ticketed}
+use Rattle.builder_spec.specs.Ledger.Replies.{is_accepted, ticket_in, verdicts_in, accepts}
 use Rattle.ledger_laws.proofs.PlainLaws.{same_some, take_none, take_some, take_whole, taken_at, any_at, any_there, no_more}
 use Rattle.ledger_spec.specs.Replay.{Course, Pending, Replay, World, pending_entry, with_pending, after_call, accepted_among, replay_from, gives_ticket, tickets, published_at, publication, world}
 use Rattle.ledger_spec.specs.Views.{look}

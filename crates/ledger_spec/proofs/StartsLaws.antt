@@ -3,17 +3,17 @@ use Rattle.std.proofs.Common.{◌≡◌, ℕ, Bool, true, false, not, ◌&&◌, 
 use Rattle.std.specs.Prelude.{if◌then◌else◌, is_some}
 use Rattle.std.specs.List.{slice_get, list_any}
 use Rattle.std.specs.Cmp.Lexicographic.{bytes_decides}
-use Rattle.machine.specs.declared.datum.Datum.{Datum}
-use Rattle.eutxo_types.specs.declared.output.Output.{Output}
-use Rattle.eutxo_types.specs.declared.output_ref.OutputRef.{OutputRef}
-use Rattle.eutxo_types.specs.declared.output_ref.OutputRef.TheVariants.{Genesis, Made}
-use Rattle.eutxo_types.specs.declared.tx.Tx.{Tx}
-use Rattle.eutxo_types.specs.Ids.{id_of}
-use Rattle.eutxo_types.specs.Parts.{contract_at, script_in, steps}
-use Rattle.roles.specs.declared.published.Published.{Published}
-use Rattle.ledger.specs.declared.look.ThreadOutput.{ThreadOutput}
+use Rattle.builder_spec.specs.Machine.declared.datum.Datum.{Datum}
+use Rattle.builder_spec.specs.EutxoTypes.declared.output.Output.{Output}
+use Rattle.builder_spec.specs.EutxoTypes.declared.output_ref.OutputRef.{OutputRef}
+use Rattle.builder_spec.specs.EutxoTypes.declared.output_ref.OutputRef.TheVariants.{Genesis, Made}
+use Rattle.builder_spec.specs.EutxoTypes.declared.tx.Tx.{Tx}
+use Rattle.builder_spec.specs.EutxoTypes.Ids.{id_of}
+use Rattle.builder_spec.specs.EutxoTypes.Parts.{contract_at, script_in, steps}
+use Rattle.builder_spec.specs.Roles.declared.published.Published.{Published}
+use Rattle.builder_spec.specs.Ledger.declared.look.ThreadOutput.{ThreadOutput}
 use Rattle.ledger_laws.specs.Past.{Past, unspent_at, has_id}
-use Rattle.roles.specs.Steps.{marlowe}
+use Rattle.builder_spec.specs.Roles.Steps.{marlowe}
 use Rattle.ledger_laws.specs.Threads.{IsMade, StartsThread, thread_end}
 use Rattle.ledger_laws.proofs.PlainLaws.{and_true, both, is_there, any_there, any_at}
 use Rattle.ledger_laws.proofs.ReferenceLaws.{itself}

@@ -1,10 +1,10 @@
 -- A step is accepted as steps of one part.
 use Rattle.std.proofs.Common.{◌≡◌, ℕ, List, [], ◌∷◌, sym, subst, Option, Some, None}
 use Rattle.std.proofs.lemmas.List.Elements.{All-nil, All-cons}
-use Rattle.eutxo_types.specs.declared.tx.Tx.{Tx}
-use Rattle.roles.specs.declared.published.Published.{Published}
-use Rattle.ledger.specs.declared.look.Look.{Look}
-use Rattle.ledger.specs.declared.look.Unspent.{Unspent}
+use Rattle.builder_spec.specs.EutxoTypes.declared.tx.Tx.{Tx}
+use Rattle.builder_spec.specs.Roles.declared.published.Published.{Published}
+use Rattle.builder_spec.specs.Ledger.declared.look.Look.{Look}
+use Rattle.builder_spec.specs.Ledger.declared.look.Unspent.{Unspent}
 use Rattle.builder_spec.specs.Requests.{StepRequest, one_part}
 use Rattle.builder_spec.specs.Steps.{Thread, Stepped, stepped, look_thread, step_spent}
 use Rattle.builder_spec.specs.Parts.{hinders_step, layout_step}

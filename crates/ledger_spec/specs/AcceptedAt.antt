@@ -1,13 +1,13 @@
 -- Where a Submit, or a place of a Round, accepts a transaction, and what that finds open there.
 use Rattle.std.specs.Prelude.{◌≡◌, ℕ, List, take, slice_get, Some}
-use Rattle.eutxo_types.specs.declared.tx.Tx.{Tx}
-use Rattle.eutxo_types.specs.declared.verdict.Verdict.TheVariants as verdicts
-use Rattle.eutxo_types.specs.Fitting.{TxFits}
-use Rattle.eutxo_types.specs.Ids.{id_of}
-use Rattle.ledger.specs.declared.call.Call.TheVariants as on
-use Rattle.ledger.specs.declared.call.Reply.TheVariants as answer
-use Rattle.ledger.specs.declared.call.Ticketed.{Ticketed}
-use Rattle.ledger.specs.declared.look.Unspent.{Unspent}
+use Rattle.builder_spec.specs.EutxoTypes.declared.tx.Tx.{Tx}
+use Rattle.builder_spec.specs.EutxoTypes.declared.verdict.Verdict.TheVariants as verdicts
+use Rattle.builder_spec.specs.EutxoTypes.Fitting.{TxFits}
+use Rattle.builder_spec.specs.EutxoTypes.Ids.{id_of}
+use Rattle.builder_spec.specs.Ledger.declared.call.Call.TheVariants as on
+use Rattle.builder_spec.specs.Ledger.declared.call.Reply.TheVariants as answer
+use Rattle.builder_spec.specs.Ledger.declared.call.Ticketed.{Ticketed}
+use Rattle.builder_spec.specs.Ledger.declared.look.Unspent.{Unspent}
 use Rattle.ledger_spec.specs.Open.{IsOpen, Admits}
 use Rattle.ledger_spec.specs.Replay.{Course, pending_entry, world, past_of, moment_of}
 use Rattle.ledger_spec.specs.Calls.{after_places, reply_to}

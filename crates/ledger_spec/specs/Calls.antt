@@ -1,20 +1,20 @@
 -- The table of calls: what each is answered, and what it publishes.
 use Rattle.std.specs.Prelude.{ℕ, ℤ, int_le, nat_lt, Bool, if◌then◌else◌, List, [], ◌∷◌, ◌++◌, take, length, Option, Some, None, Result, Ok, Err}
-use Rattle.collections.specs.Same.{same_by}
-use Rattle.compiler.specs.declared.fault.CompileFault.{CompileFault}
-use Rattle.eutxo_types.specs.declared.fault.TxFault.{TxFault}
-use Rattle.eutxo_types.specs.declared.tx.Tx.{Tx}
-use Rattle.eutxo_types.specs.Ids.{id_of}
-use Rattle.eutxo.specs.Judgement.{judge}
-use Rattle.eutxo.specs.Local.{verdict_of}
-use Rattle.roles.specs.contracts.published.Published as publications
-use Rattle.roles.specs.declared.published.Published.{Published}
-use Rattle.roles.specs.Steps.{marlowe}
-use Rattle.ledger.specs.declared.call.Call.{Call}
-use Rattle.ledger.specs.declared.call.Call.TheVariants as on
-use Rattle.ledger.specs.declared.call.Reply.{Reply}
-use Rattle.ledger.specs.declared.call.Reply.TheVariants as answer
-use Rattle.ledger.specs.declared.call.Ticketed.{Ticketed}
+use Rattle.contract.specs.Collections.Same.{same_by}
+use Rattle.builder_spec.specs.Compiler.declared.fault.CompileFault.{CompileFault}
+use Rattle.builder_spec.specs.EutxoTypes.declared.fault.TxFault.{TxFault}
+use Rattle.builder_spec.specs.EutxoTypes.declared.tx.Tx.{Tx}
+use Rattle.builder_spec.specs.EutxoTypes.Ids.{id_of}
+use Rattle.builder_spec.specs.Eutxo.Judgement.{judge}
+use Rattle.builder_spec.specs.Eutxo.Local.{verdict_of}
+use Rattle.builder_spec.specs.Roles.contracts.published.Published as publications
+use Rattle.builder_spec.specs.Roles.declared.published.Published.{Published}
+use Rattle.builder_spec.specs.Roles.Steps.{marlowe}
+use Rattle.builder_spec.specs.Ledger.declared.call.Call.{Call}
+use Rattle.builder_spec.specs.Ledger.declared.call.Call.TheVariants as on
+use Rattle.builder_spec.specs.Ledger.declared.call.Reply.{Reply}
+use Rattle.builder_spec.specs.Ledger.declared.call.Reply.TheVariants as answer
+use Rattle.builder_spec.specs.Ledger.declared.call.Ticketed.{Ticketed}
 use Rattle.ledger_spec.specs.Replay.{Pending, World, published_at, publication, with_object, moment_of}
 use Rattle.ledger_spec.specs.Views.{look}
 

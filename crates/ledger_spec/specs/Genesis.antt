@@ -1,8 +1,8 @@
 -- Which outputs a ledger may begin with.
 use Rattle.std.specs.Prelude.{ℤ, pos, ◌^◌, ◌-◌, ◌≤ℤ◌, ◌<ℤ◌, List}
-use Rattle.names.specs.declared.token.Token.{Token}
-use Rattle.bundle.specs.Totals.{total_of}
-use Rattle.eutxo_types.specs.declared.output.Output.{Output}
+use Rattle.contract.specs.Names.declared.token.Token.{Token}
+use Rattle.builder_spec.specs.Bundle.Totals.{total_of}
+use Rattle.builder_spec.specs.EutxoTypes.declared.output.Output.{Output}
 use Rattle.ledger_laws.specs.Sound.{AreKeys}
 use Rattle.ledger_spec.specs.declared.genesis_fault.GenesisFault.{GenesisFault}
 use Rattle.ledger_spec.specs.declared.genesis_fault.GenesisFault.TheVariants.{NotKey, TooLarge, Memory}

@@ -8,19 +8,19 @@
 -- `layout_..` the transaction that is built.
 use Rattle.std.specs.Prelude.{◌≡◌, ℕ, List, ◌++◌, All, Option, Some, None}
 use Rattle.contract.specs.Tree.{contract_tree}
-use Rattle.eutxo_types.specs.declared.tx.Tx.{Tx}
-use Rattle.eutxo_types.specs.declared.output_ref.OutputRef.{OutputRef}
-use Rattle.eutxo_types.specs.Fitting.{TxFits}
-use Rattle.eutxo_types.specs.Parts.{Instance}
-use Rattle.roles.specs.declared.published.Published.{Published}
-use Rattle.roles.specs.Steps.{marlowe}
-use Rattle.roles.specs.Terms.{terms_of}
+use Rattle.builder_spec.specs.EutxoTypes.declared.tx.Tx.{Tx}
+use Rattle.builder_spec.specs.EutxoTypes.declared.output_ref.OutputRef.{OutputRef}
+use Rattle.builder_spec.specs.EutxoTypes.Fitting.{TxFits}
+use Rattle.builder_spec.specs.EutxoTypes.Parts.{Instance}
+use Rattle.builder_spec.specs.Roles.declared.published.Published.{Published}
+use Rattle.builder_spec.specs.Roles.Steps.{marlowe}
+use Rattle.builder_spec.specs.Roles.Terms.{terms_of}
 use Rattle.ledger_laws.specs.Past.{Past}
 use Rattle.ledger_laws.specs.Sound.{AreKeys}
 use Rattle.ledger_laws.specs.Threads.{thread, IsStart, BringsWhatWasMade, Run, Carries}
 use Rattle.ledger_laws.specs.Laws.{ExactlyOne, IsOneRun, DigestsTell, EndsWithItsRun, BlocksAreApart, EachStepHasItsThread, ContractsAreStepped, EachIsAuthorised, EachContractEndsAThread, EachEndIsUnspent, AreFunded, AreOfTables, ReferencesAreSingle, IdsAreSingle, IsSpentOnce, IsPreserved, StepsAreOfContracts}
-use Rattle.ledger.specs.declared.call.Entry.{Entry}
-use Rattle.ledger.specs.declared.look.Unspent.{Unspent}
+use Rattle.builder_spec.specs.Ledger.declared.call.Entry.{Entry}
+use Rattle.builder_spec.specs.Ledger.declared.look.Unspent.{Unspent}
 use Rattle.builder_spec.specs.Requests.{StepsRequest, StartRequest, ClaimRequest}
 use Rattle.builder_spec.specs.Parts.{threads_of, parts_spent, ArePublished, hinders_steps, layout_steps}
 use Rattle.builder_spec.specs.Steps.{Stepped}

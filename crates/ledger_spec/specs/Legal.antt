@@ -1,7 +1,7 @@
 -- Which histories are legal: what ties entries to the table of calls.
 use Rattle.std.specs.Prelude.{◌≡◌, ℕ, [], ◌∷◌, ◌++◌, take, slice_get, Some}
-use Rattle.ledger.specs.declared.call.Call.{Call}
-use Rattle.ledger.specs.declared.call.Entry.{Entry}
+use Rattle.builder_spec.specs.Ledger.declared.call.Call.{Call}
+use Rattle.builder_spec.specs.Ledger.declared.call.Entry.{Entry}
 use Rattle.ledger_spec.specs.Replay.{Course, count_of, world}
 use Rattle.ledger_spec.specs.Calls.{reply_to}
 

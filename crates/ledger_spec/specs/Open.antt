@@ -1,10 +1,10 @@
 -- What a transaction finds on a ledger where it is accepted.
 use Rattle.std.specs.Prelude.{◌≡◌, ℕ, ℤ, ◌≤ℤ◌, false, List, slice_get, All, Some}
-use Rattle.eutxo_types.specs.declared.tx.Tx.{Tx}
-use Rattle.eutxo_types.specs.Ids.{id_of}
-use Rattle.eutxo_types.specs.Spelling.{tx_bytes}
-use Rattle.eutxo.specs.Judgement.{Moment}
-use Rattle.ledger.specs.declared.look.Unspent.{Unspent}
+use Rattle.builder_spec.specs.EutxoTypes.declared.tx.Tx.{Tx}
+use Rattle.builder_spec.specs.EutxoTypes.Ids.{id_of}
+use Rattle.builder_spec.specs.EutxoTypes.Spelling.{tx_bytes}
+use Rattle.builder_spec.specs.Eutxo.Judgement.{Moment}
+use Rattle.builder_spec.specs.Ledger.declared.look.Unspent.{Unspent}
 use Rattle.ledger_laws.specs.Past.{Past, unspent_at}
 
 -- no transaction of other bytes that was accepted has its id, which is the SHA-256 of its bytes

@@ -2,11 +2,11 @@
 use Rattle.std.specs.Prelude.{◌≡◌, ℕ, List, take, slice_get, Option, Some, Ok}
 use Rattle.contract.specs.declared.tree.Contract.{Contract}
 use Rattle.contract.specs.Tree.{contract_tree}
-use Rattle.roles.specs.declared.published.Published.{Published}
-use Rattle.roles.specs.Terms.{IsTable, terms_of}
-use Rattle.ledger.specs.declared.call.Call.TheVariants as on
-use Rattle.ledger.specs.declared.call.Entry.{Entry}
-use Rattle.ledger.specs.declared.call.Reply.TheVariants as answer
+use Rattle.builder_spec.specs.Roles.declared.published.Published.{Published}
+use Rattle.builder_spec.specs.Roles.Terms.{IsTable, terms_of}
+use Rattle.builder_spec.specs.Ledger.declared.call.Call.TheVariants as on
+use Rattle.builder_spec.specs.Ledger.declared.call.Entry.{Entry}
+use Rattle.builder_spec.specs.Ledger.declared.call.Reply.TheVariants as answer
 use Rattle.ledger_spec.specs.Replay.{Course, publication, published, published_at}
 use Rattle.ledger_spec.specs.Legal.{IsLegal}
 

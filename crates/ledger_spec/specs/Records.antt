@@ -1,15 +1,15 @@
 -- What the records of a thread say.
 use Rattle.std.specs.Prelude.{◌≡◌, ◌↔◌, true, List, [], ◌∷◌, ℕ, length, map, slice_get, All, Option, Some, None}
 use Rattle.contract.specs.Tree.{close}
-use Rattle.eutxo_types.specs.declared.output_ref.OutputRef.{OutputRef}
-use Rattle.roles.specs.declared.published.Published.{Published}
-use Rattle.eutxo.specs.Blocks.{goes_on_at}
-use Rattle.roles.specs.Steps.{marlowe}
-use Rattle.roles.specs.Terms.{Terms, terms_of}
+use Rattle.builder_spec.specs.EutxoTypes.declared.output_ref.OutputRef.{OutputRef}
+use Rattle.builder_spec.specs.Roles.declared.published.Published.{Published}
+use Rattle.builder_spec.specs.Eutxo.Blocks.{goes_on_at}
+use Rattle.builder_spec.specs.Roles.Steps.{marlowe}
+use Rattle.builder_spec.specs.Roles.Terms.{Terms, terms_of}
 use Rattle.ledger_laws.specs.Past.{Past}
 use Rattle.ledger_laws.specs.Threads.{blocks_of, IsStart, StartsThread, Link, thread, thread_end, BringsWhatWasMade, Member, Run, Carries}
 use Rattle.ledger_spec.specs.declared.step_record.StepRecord.{StepRecord}
-use Rattle.eutxo_types.specs.Parts.{Instance, contract_at}
+use Rattle.builder_spec.specs.EutxoTypes.Parts.{Instance, contract_at}
 
 -- the member of a run that a record tells of: its number stands for the remaining contract
 abbrev pub member_of : Terms → StepRecord → Member

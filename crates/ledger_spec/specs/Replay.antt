@@ -3,22 +3,22 @@ use Rattle.std.specs.Prelude.{ℕ, ℤ, Bool, if◌then◌else◌, List, [], ◌
 use Rattle.std.specs.List.{find}
 use Rattle.contract.specs.declared.tree.Contract.{Contract}
 use Rattle.contract.specs.Tree.{ContractTree, contract_tree}
-use Rattle.compiler.specs.declared.fault.CompileFault.{CompileFault}
-use Rattle.compiler.specs.Limits.{compile_fault}
-use Rattle.eutxo_types.specs.declared.output.Output.{Output}
-use Rattle.eutxo_types.specs.declared.tx.Tx.{Tx}
-use Rattle.eutxo.specs.Judgement.{Moment}
-use Rattle.eutxo_types.specs.Parts.{same_bytes}
-use Rattle.roles.specs.declared.published.Published.{Published}
-use Rattle.roles.specs.Publications.{published_of}
+use Rattle.builder_spec.specs.Compiler.declared.fault.CompileFault.{CompileFault}
+use Rattle.builder_spec.specs.Compiler.Limits.{compile_fault}
+use Rattle.builder_spec.specs.EutxoTypes.declared.output.Output.{Output}
+use Rattle.builder_spec.specs.EutxoTypes.declared.tx.Tx.{Tx}
+use Rattle.builder_spec.specs.Eutxo.Judgement.{Moment}
+use Rattle.builder_spec.specs.EutxoTypes.Parts.{same_bytes}
+use Rattle.builder_spec.specs.Roles.declared.published.Published.{Published}
+use Rattle.builder_spec.specs.Roles.Publications.{published_of}
 use Rattle.ledger_laws.specs.Past.{Past}
 use Rattle.ledger_laws.specs.Sound.{moment}
-use Rattle.ledger.specs.declared.call.Call.{Call}
-use Rattle.ledger.specs.declared.call.Call.TheVariants as on
-use Rattle.ledger.specs.declared.call.Reply.{Reply}
-use Rattle.ledger.specs.declared.call.Entry.{Entry}
-use Rattle.ledger.specs.declared.call.Ticketed.{Ticketed}
-use Rattle.ledger.specs.Replies.{is_advanced, is_accepted, is_published, ticket_in, verdicts_in, accepts}
+use Rattle.builder_spec.specs.Ledger.declared.call.Call.{Call}
+use Rattle.builder_spec.specs.Ledger.declared.call.Call.TheVariants as on
+use Rattle.builder_spec.specs.Ledger.declared.call.Reply.{Reply}
+use Rattle.builder_spec.specs.Ledger.declared.call.Entry.{Entry}
+use Rattle.builder_spec.specs.Ledger.declared.call.Ticketed.{Ticketed}
+use Rattle.builder_spec.specs.Ledger.Replies.{is_advanced, is_accepted, is_published, ticket_in, verdicts_in, accepts}
 
 -- ---- tick, accepted and pending
 

@@ -1,16 +1,16 @@
 -- What looks show of threads after a history, and that anyone closes these after their last timeout.
 use Rattle.std.specs.Prelude.{◌≡◌, ℕ, ◌≤ℤ◌, List, Some, None, ◌⊎◌}
 use Rattle.contract.specs.declared.interval.Interval.{Interval}
-use Rattle.evaluation.specs.Timeouts.{last}
-use Rattle.semantics.specs.Closing.{HasReached}
-use Rattle.machine.specs.declared.datum.Datum.{Datum}
-use Rattle.eutxo_types.specs.declared.output_ref.OutputRef.{OutputRef}
-use Rattle.eutxo_types.specs.Parts.{Instance}
-use Rattle.roles.specs.Steps.{marlowe}
+use Rattle.builder_spec.specs.Evaluation.Timeouts.{last}
+use Rattle.builder_spec.specs.Semantics.Closing.{HasReached}
+use Rattle.builder_spec.specs.Machine.declared.datum.Datum.{Datum}
+use Rattle.builder_spec.specs.EutxoTypes.declared.output_ref.OutputRef.{OutputRef}
+use Rattle.builder_spec.specs.EutxoTypes.Parts.{Instance}
+use Rattle.builder_spec.specs.Roles.Steps.{marlowe}
 use Rattle.ledger_laws.specs.Threads.{thread, IsStart, Carries, thread_end, IsMade, StartsThread, Member, contract_after, state_after}
-use Rattle.ledger.specs.declared.ask.Ask.{Ask}
-use Rattle.ledger.specs.declared.look.Look.{Look}
-use Rattle.ledger.specs.declared.look.ThreadOutput.{ThreadOutput}
+use Rattle.builder_spec.specs.Ledger.declared.ask.Ask.{Ask}
+use Rattle.builder_spec.specs.Ledger.declared.look.Look.{Look}
+use Rattle.builder_spec.specs.Ledger.declared.look.ThreadOutput.{ThreadOutput}
 use Rattle.builder_spec.specs.Requests.{StepRequest}
 use Rattle.builder_spec.specs.Parts.{hinders_step, layout_step}
 use Rattle.builder_spec.specs.Steps.{Thread, thread_terms, look_thread, step_spent}

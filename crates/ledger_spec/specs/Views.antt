@@ -1,25 +1,25 @@
 -- What is shown of what stands: looks, and the front of the pool.
 use Rattle.std.specs.Prelude.{◌≡◌, ℕ, Bool, false, not, ◌&&◌, if◌then◌else◌, List, map, filter, take, Option, Some, None, is_some, option_map}
 use Rattle.std.specs.List.{list_any}
-use Rattle.machine.specs.declared.datum.Datum.{Datum}
-use Rattle.eutxo_types.specs.declared.lock.Lock.{Lock}
-use Rattle.eutxo_types.specs.declared.lock.Lock.TheVariants.{Key, Payout, Contract}
-use Rattle.eutxo_types.specs.declared.output.Output.{Output}
-use Rattle.eutxo_types.specs.declared.output_ref.OutputRef.{OutputRef}
-use Rattle.eutxo_types.specs.declared.output_ref.OutputRef.TheVariants.{Genesis, Made}
-use Rattle.eutxo_types.specs.declared.tx.Tx.{Tx}
-use Rattle.eutxo.specs.declared.resolved.Resolved.{Resolved}
-use Rattle.eutxo.specs.Faults.{first_of}
-use Rattle.eutxo.specs.Judgement.{found}
-use Rattle.eutxo_types.specs.Parts.{same_bytes, Instance, contract_at, steps, script_in, PayoutRole, payout_in}
-use Rattle.roles.specs.declared.published.Published.{Published}
-use Rattle.ledger.specs.declared.ask.Ask.{Ask}
-use Rattle.ledger.specs.declared.ask.PayoutLock.{PayoutLock}
-use Rattle.ledger.specs.declared.look.Look.{Look}
-use Rattle.ledger.specs.declared.look.ThreadOutput.{ThreadOutput}
-use Rattle.ledger.specs.declared.look.Unspent.{Unspent}
+use Rattle.builder_spec.specs.Machine.declared.datum.Datum.{Datum}
+use Rattle.builder_spec.specs.EutxoTypes.declared.lock.Lock.{Lock}
+use Rattle.builder_spec.specs.EutxoTypes.declared.lock.Lock.TheVariants.{Key, Payout, Contract}
+use Rattle.builder_spec.specs.EutxoTypes.declared.output.Output.{Output}
+use Rattle.builder_spec.specs.EutxoTypes.declared.output_ref.OutputRef.{OutputRef}
+use Rattle.builder_spec.specs.EutxoTypes.declared.output_ref.OutputRef.TheVariants.{Genesis, Made}
+use Rattle.builder_spec.specs.EutxoTypes.declared.tx.Tx.{Tx}
+use Rattle.builder_spec.specs.Eutxo.declared.resolved.Resolved.{Resolved}
+use Rattle.builder_spec.specs.Eutxo.Faults.{first_of}
+use Rattle.builder_spec.specs.Eutxo.Judgement.{found}
+use Rattle.builder_spec.specs.EutxoTypes.Parts.{same_bytes, Instance, contract_at, steps, script_in, PayoutRole, payout_in}
+use Rattle.builder_spec.specs.Roles.declared.published.Published.{Published}
+use Rattle.builder_spec.specs.Ledger.declared.ask.Ask.{Ask}
+use Rattle.builder_spec.specs.Ledger.declared.ask.PayoutLock.{PayoutLock}
+use Rattle.builder_spec.specs.Ledger.declared.look.Look.{Look}
+use Rattle.builder_spec.specs.Ledger.declared.look.ThreadOutput.{ThreadOutput}
+use Rattle.builder_spec.specs.Ledger.declared.look.Unspent.{Unspent}
 use Rattle.ledger_laws.specs.Past.{Past, unspent, unspent_at, has_id}
-use Rattle.roles.specs.Steps.{marlowe}
+use Rattle.builder_spec.specs.Roles.Steps.{marlowe}
 use Rattle.ledger_laws.specs.Threads.{StartsThread, thread_end}
 use Rattle.ledger_spec.specs.Replay.{World, past_of, published_at, moment_of}
 

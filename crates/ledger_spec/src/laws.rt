@@ -3,7 +3,7 @@ ghost use Rattle.ledger_spec.specs.Publishing.{PublicationsAreEntries, EntriesAr
 ghost use Rattle.ledger_spec.specs.Standing.{LegalHistoriesStand};
 ghost use Rattle.ledger_spec.specs.Views.{EachStartIsTold};
 
-use roles::{published_are_tables, published_tell_contracts_apart};
+use builder_spec::{published_are_tables, published_tell_contracts_apart};
 
 /// After a legal history the tick is the last that an entry advanced to, pending are the enqueued transactions that no
 /// round took, in order, and accepted are the Submits answered Accepted and the accepted places of rounds.

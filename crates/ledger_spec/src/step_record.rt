@@ -1,7 +1,6 @@
 //! Records.
-use collections::{Items, Memory, Same, TryClone};
-use contract::{Input, Interval, Payment, State, Warning};
-use eutxo_types::Cont;
+use builder_spec::Cont;
+use contract::{Input, Interval, Items, Memory, Payment, Same, State, TryClone, Warning};
 
 /// One step of a thread (Marlowe specification version 3, "Compute transaction").
 #[derive(Drop)]
@@ -49,8 +48,8 @@ impl Same for StepRecord {
 }
 
 impl PartialEq for StepRecord {
-    ghost use Rattle.collections.specs.Same.{same_by};
-    ghost use Rattle.collections.proofs.SameLaws.{same_by-partial};
+    ghost use Rattle.contract.specs.Collections.Same.{same_by};
+    ghost use Rattle.contract.proofs.FromCollections.SameLaws.{same_by-partial};
     ghost use Rattle.ledger_spec.specs.contracts.step_record.StepRecord as it;
 
     ghost eq = { same_by it.the_row.coded };
@@ -63,7 +62,7 @@ impl PartialEq for StepRecord {
 }
 
 impl Eq for StepRecord {
-    ghost use Rattle.collections.proofs.SameLaws.{same_by-equiv};
+    ghost use Rattle.contract.proofs.FromCollections.SameLaws.{same_by-equiv};
     ghost use Rattle.ledger_spec.specs.contracts.step_record.StepRecord as it;
 
     ghost laws = { same_by-equiv it.the_row.coded };

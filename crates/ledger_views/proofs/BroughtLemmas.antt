@@ -3,11 +3,11 @@ use Rattle.std.proofs.Common.{◌≡◌, ℕ, zero, suc, ◌+◌, ◌<◌, Bool,
 use Rattle.std.specs.Prelude.{if◌then◌else◌}
 use Rattle.std.specs.List.{slice_get}
 use Rattle.std.proofs.lemmas.List.{at_drop_more}
-use Rattle.machine.specs.declared.datum.Datum.{Datum}
-use Rattle.eutxo_types.specs.declared.output_ref.OutputRef.{OutputRef}
-use Rattle.eutxo_types.specs.declared.spend.Spend.{Spend}
-use Rattle.eutxo_types.specs.Parts.{same_ref, is_step}
-use Rattle.ledger_laws.specs.Threads.{brought_to}
+use Rattle.ledger_kept.specs.Machine.declared.datum.Datum.{Datum}
+use Rattle.ledger_kept.specs.EutxoTypes.declared.output_ref.OutputRef.{OutputRef}
+use Rattle.ledger_kept.specs.EutxoTypes.declared.spend.Spend.{Spend}
+use Rattle.ledger_kept.specs.EutxoTypes.Parts.{same_ref, is_step}
+use Rattle.ledger_kept.specs.LedgerLaws.Threads.{brought_to}
 
 one_dropped : {A : Type 0} (n : ℕ) (xs : List A) → drop 1 (drop n xs) ≡ drop (suc n) xs
 one_dropped zero [] = refl

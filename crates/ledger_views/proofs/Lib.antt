@@ -4,3 +4,5 @@ mod StartLemmas
 mod BroughtLemmas
 mod NextRecordLemmas
 mod RecordsLemmas
+pub mod FromLedgerLaws
+pub mod FromLedgerSpec

@@ -2,18 +2,18 @@
 use Rattle.std.proofs.Common.{◌≡◌, ℕ, zero, suc, ◌+◌, ◌<◌, Bool, true, false, List, [], ◌∷◌, refl, ◌∙◌, ap, arith, Option, Some, None, map, drop, length, get_or}
 use Rattle.std.specs.Prelude.{if◌then◌else◌, is_some}
 use Rattle.std.specs.List.{All}
-use Rattle.eutxo_types.specs.declared.output_ref.OutputRef.{OutputRef}
-use Rattle.eutxo_types.specs.declared.tx.Tx.{Tx}
-use Rattle.eutxo_types.specs.Parts.{Instance}
-use Rattle.roles.specs.Steps.{marlowe}
-use Rattle.ledger_laws.specs.Past.{is_input_of}
-use Rattle.ledger_laws.specs.Threads.{Link, spine_by, ends_by, IsMade, thread}
-use Rattle.ledger_laws.proofs.PlainLaws.{same_some}
-use Rattle.ledger_spec.specs.Replay.{World, past_of, published_at}
-use Rattle.chain_index.specs.declared.moves.StepPlace.{StepPlace}
-use Rattle.chain_index.specs.Contents.{Contents}
-use Rattle.chain_index.specs.Laws.{link_at, ThreadsAlike}
-use Rattle.chain_index.specs.Moves.{along}
+use Rattle.ledger_kept.specs.EutxoTypes.declared.output_ref.OutputRef.{OutputRef}
+use Rattle.ledger_kept.specs.EutxoTypes.declared.tx.Tx.{Tx}
+use Rattle.ledger_kept.specs.EutxoTypes.Parts.{Instance}
+use Rattle.ledger_kept.specs.Roles.Steps.{marlowe}
+use Rattle.ledger_kept.specs.LedgerLaws.Past.{is_input_of}
+use Rattle.ledger_kept.specs.LedgerLaws.Threads.{Link, spine_by, ends_by, IsMade, thread}
+use Rattle.ledger_kept.proofs.FromLedgerLaws.PlainLaws.{same_some}
+use Rattle.ledger_kept.specs.LedgerSpec.Replay.{World, past_of, published_at}
+use Rattle.ledger_kept.specs.ChainIndex.declared.moves.StepPlace.{StepPlace}
+use Rattle.ledger_kept.specs.ChainIndex.Contents.{Contents}
+use Rattle.ledger_kept.specs.ChainIndex.Laws.{link_at, ThreadsAlike}
+use Rattle.ledger_kept.specs.ChainIndex.Moves.{along}
 use Rattle.ledger_kept.specs.Kept.{IsIndexOf}
 use Rattle.ledger_views.specs.RecordsSupport.{goes_to, Leads}
 

@@ -1,15 +1,15 @@
 -- What is read off an index of what stands is what a look shows of it.
 use Rattle.std.proofs.Common.{◌≡◌, refl, ◌∙◌, ap, Option, Some, None}
 use Rattle.std.specs.Map.{lookup}
-use Rattle.eutxo_types.specs.declared.output.Output.{Output}
-use Rattle.eutxo_types.specs.declared.output_ref.OutputRef.{OutputRef}
-use Rattle.eutxo_types.specs.Parts.{same_ref}
-use Rattle.ledger_laws.specs.Past.{unspent_at}
-use Rattle.ledger.specs.declared.ask.Ask.{Ask}
-use Rattle.ledger_spec.specs.Replay.{World, past_of}
-use Rattle.ledger_spec.specs.Views.{made_datum, thread_output_in, thread_output_at, thread_shown, look}
-use Rattle.chain_index.specs.Contents.{Contents, contents_of}
-use Rattle.chain_index.specs.Laws.{EndsAlike, DataAlike}
+use Rattle.ledger_kept.specs.EutxoTypes.declared.output.Output.{Output}
+use Rattle.ledger_kept.specs.EutxoTypes.declared.output_ref.OutputRef.{OutputRef}
+use Rattle.ledger_kept.specs.EutxoTypes.Parts.{same_ref}
+use Rattle.ledger_kept.specs.LedgerLaws.Past.{unspent_at}
+use Rattle.ledger_kept.specs.Ledger.declared.ask.Ask.{Ask}
+use Rattle.ledger_kept.specs.LedgerSpec.Replay.{World, past_of}
+use Rattle.ledger_kept.specs.LedgerSpec.Views.{made_datum, thread_output_in, thread_output_at, thread_shown, look}
+use Rattle.ledger_kept.specs.ChainIndex.Contents.{Contents, contents_of}
+use Rattle.ledger_kept.specs.ChainIndex.Laws.{EndsAlike, DataAlike}
 use Rattle.ledger_kept.specs.Kept.{IsIndexOf}
 use Rattle.ledger_views.specs.ViewsSupport.{output_shown_in, thread_shown_in, look_in}
 

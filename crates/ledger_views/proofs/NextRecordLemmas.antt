@@ -11,25 +11,25 @@ use Rattle.contract.specs.declared.fault.SemFault.{SemFault}
 use Rattle.contract.specs.declared.interval.Interval.{Interval}
 use Rattle.contract.specs.declared.input.Input.{Input}
 use Rattle.contract.specs.Tree.{ContractTree, close}
-use Rattle.semantics.specs.Walk.{Standing, Walk, standing, answer_of}
-use Rattle.semantics.specs.Computed.{computed}
-use Rattle.nodes.specs.declared.cont.Cont.{Cont}
-use Rattle.machine.specs.declared.datum.Datum.{Datum}
-use Rattle.eutxo_types.specs.declared.output_ref.OutputRef.{OutputRef}
-use Rattle.eutxo_types.specs.declared.output_ref.OutputRef.TheVariants.{Made}
-use Rattle.eutxo_types.specs.Ids.{id_of}
-use Rattle.eutxo_types.specs.Parts.{same_ref, Instance, contract_at}
-use Rattle.eutxo.specs.declared.validator.StepAnswer.{StepAnswer}
-use Rattle.eutxo.specs.declared.validator.StepAnswer.TheVariants.{Refused, Takes}
-use Rattle.eutxo.specs.Blocks.{Block, continues, goes_on_at, stands_from}
-use Rattle.roles.specs.declared.published.Published.{Published}
-use Rattle.roles.specs.Steps.{marlowe}
-use Rattle.roles.specs.Terms.{Terms}
-use Rattle.ledger_laws.specs.Past.{Past}
-use Rattle.ledger_laws.specs.Threads.{blocks_of, next_in, next_of, Link, brought_by, Member, Gives, LaidOutAfter, Carries}
-use Rattle.ledger_laws.proofs.PlainLaws.{same_some}
-use Rattle.ledger_spec.specs.declared.step_record.StepRecord.{StepRecord}
-use Rattle.ledger_spec.specs.Records.{member_of, HoldsNumber, HoldNumbers}
+use Rattle.ledger_kept.specs.Semantics.Walk.{Standing, Walk, standing, answer_of}
+use Rattle.ledger_kept.specs.Semantics.Computed.{computed}
+use Rattle.ledger_kept.specs.Nodes.declared.cont.Cont.{Cont}
+use Rattle.ledger_kept.specs.Machine.declared.datum.Datum.{Datum}
+use Rattle.ledger_kept.specs.EutxoTypes.declared.output_ref.OutputRef.{OutputRef}
+use Rattle.ledger_kept.specs.EutxoTypes.declared.output_ref.OutputRef.TheVariants.{Made}
+use Rattle.ledger_kept.specs.EutxoTypes.Ids.{id_of}
+use Rattle.ledger_kept.specs.EutxoTypes.Parts.{same_ref, Instance, contract_at}
+use Rattle.ledger_kept.specs.Eutxo.declared.validator.StepAnswer.{StepAnswer}
+use Rattle.ledger_kept.specs.Eutxo.declared.validator.StepAnswer.TheVariants.{Refused, Takes}
+use Rattle.ledger_kept.specs.Eutxo.Blocks.{Block, continues, goes_on_at, stands_from}
+use Rattle.ledger_kept.specs.Roles.declared.published.Published.{Published}
+use Rattle.ledger_kept.specs.Roles.Steps.{marlowe}
+use Rattle.ledger_kept.specs.Roles.Terms.{Terms}
+use Rattle.ledger_kept.specs.LedgerLaws.Past.{Past}
+use Rattle.ledger_kept.specs.LedgerLaws.Threads.{blocks_of, next_in, next_of, Link, brought_by, Member, Gives, LaidOutAfter, Carries}
+use Rattle.ledger_kept.proofs.FromLedgerLaws.PlainLaws.{same_some}
+use Rattle.ledger_kept.specs.LedgerSpec.declared.step_record.StepRecord.{StepRecord}
+use Rattle.ledger_kept.specs.LedgerSpec.Records.{member_of, HoldsNumber, HoldNumbers}
 use Rattle.ledger_views.specs.RecordsSupport.{given, instance_next, number_after, IsStepOf, IsAStep, Goes}
 
 -- ---- a walk

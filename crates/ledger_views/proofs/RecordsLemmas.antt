@@ -3,20 +3,20 @@ use Rattle.std.proofs.Common.{◌≡◌, ℕ, suc, true, List, [], ◌∷◌, re
 use Rattle.std.specs.Prelude.{IfOk, ◌↔◌}
 use Rattle.std.specs.List.{All}
 use Rattle.std.proofs.lemmas.List.{length-map}
-use Rattle.eutxo_types.specs.declared.output_ref.OutputRef.{OutputRef}
-use Rattle.eutxo_types.specs.Parts.{Instance}
-use Rattle.roles.specs.declared.published.Published.{Published}
-use Rattle.roles.specs.Terms.{Terms, terms_of}
-use Rattle.ledger_laws.specs.Past.{Past}
-use Rattle.ledger_laws.specs.Sound.{IsSound}
-use Rattle.roles.specs.Steps.{marlowe}
-use Rattle.ledger_laws.specs.Laws.{AreTables, IsOneRun, ThreadsAreRuns}
-use Rattle.ledger_laws.specs.Threads.{IsStart, Link, Member, Run, Carries, next_of, ends_by, thread}
-use Rattle.ledger_laws.proofs.PlainLaws.{same_some}
-use Rattle.ledger_spec.specs.declared.step_record.StepRecord.{StepRecord}
-use Rattle.ledger_spec.specs.Views.{end_of}
-use Rattle.ledger_spec.specs.Records.{member_of, LeftClose, TellTheRun, HoldNumbers}
-use Rattle.ledger_spec.proofs.StartsLaws.{starts_told}
+use Rattle.ledger_kept.specs.EutxoTypes.declared.output_ref.OutputRef.{OutputRef}
+use Rattle.ledger_kept.specs.EutxoTypes.Parts.{Instance}
+use Rattle.ledger_kept.specs.Roles.declared.published.Published.{Published}
+use Rattle.ledger_kept.specs.Roles.Terms.{Terms, terms_of}
+use Rattle.ledger_kept.specs.LedgerLaws.Past.{Past}
+use Rattle.ledger_kept.specs.LedgerLaws.Sound.{IsSound}
+use Rattle.ledger_kept.specs.Roles.Steps.{marlowe}
+use Rattle.ledger_kept.specs.LedgerLaws.Laws.{AreTables, IsOneRun, ThreadsAreRuns}
+use Rattle.ledger_kept.specs.LedgerLaws.Threads.{IsStart, Link, Member, Run, Carries, next_of, ends_by, thread}
+use Rattle.ledger_kept.proofs.FromLedgerLaws.PlainLaws.{same_some}
+use Rattle.ledger_kept.specs.LedgerSpec.declared.step_record.StepRecord.{StepRecord}
+use Rattle.ledger_kept.specs.LedgerSpec.Views.{end_of}
+use Rattle.ledger_kept.specs.LedgerSpec.Records.{member_of, LeftClose, TellTheRun, HoldNumbers}
+use Rattle.ledger_kept.proofs.FromLedgerSpec.StartsLaws.{starts_told}
 use Rattle.ledger_views.specs.RecordsSupport.{Leads}
 use Rattle.ledger_views.proofs.LinkLemmas.{spine_leads}
 

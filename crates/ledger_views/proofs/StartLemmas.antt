@@ -9,23 +9,23 @@ use Rattle.std.proofs.lemmas.List.{length-map}
 use Rattle.std.proofs.lemmas.List.Quantifiers.{position-Some}
 use Rattle.std.proofs.lemmas.List.Sums.{fails_before_first}
 use Rattle.std.proofs.lemmas.Option.{slice_get-map, slice_get-get_or, slice_get_within, get_or_from_slice_get}
-use Rattle.eutxo_types.specs.declared.output_ref.OutputRef.{OutputRef}
-use Rattle.eutxo_types.specs.declared.tx.Tx.{Tx}
-use Rattle.eutxo_types.specs.Ids.{id_of}
-use Rattle.eutxo_types.specs.Parts.{Instance, same_bytes}
-use Rattle.roles.specs.Steps.{marlowe}
-use Rattle.ledger_laws.specs.Past.{Past}
-use Rattle.ledger_laws.specs.Laws.{NamesAreSingle}
-use Rattle.ledger_laws.specs.Threads.{IsMade, IsStart}
-use Rattle.ledger_laws.proofs.PlainLaws.{not_both, same_some}
-use Rattle.ledger_laws.proofs.ReferenceLaws.{itself}
-use Rattle.ledger_spec.specs.Replay.{World, past_of, published_at}
-use Rattle.ledger_spec.specs.Views.{starts_in}
-use Rattle.ledger_spec.specs.declared.step_record.StepRecord.{StepRecord}
-use Rattle.ledger_spec.specs.Records.{TellTheRun, AreSteps}
-use Rattle.ledger_spec.proofs.StartsLaws.{told_start, start_told}
-use Rattle.chain_index.specs.Contents.{Contents}
-use Rattle.chain_index.specs.Laws.{StartsAlike}
+use Rattle.ledger_kept.specs.EutxoTypes.declared.output_ref.OutputRef.{OutputRef}
+use Rattle.ledger_kept.specs.EutxoTypes.declared.tx.Tx.{Tx}
+use Rattle.ledger_kept.specs.EutxoTypes.Ids.{id_of}
+use Rattle.ledger_kept.specs.EutxoTypes.Parts.{Instance, same_bytes}
+use Rattle.ledger_kept.specs.Roles.Steps.{marlowe}
+use Rattle.ledger_kept.specs.LedgerLaws.Past.{Past}
+use Rattle.ledger_kept.specs.LedgerLaws.Laws.{NamesAreSingle}
+use Rattle.ledger_kept.specs.LedgerLaws.Threads.{IsMade, IsStart}
+use Rattle.ledger_kept.proofs.FromLedgerLaws.PlainLaws.{not_both, same_some}
+use Rattle.ledger_kept.proofs.FromLedgerLaws.ReferenceLaws.{itself}
+use Rattle.ledger_kept.specs.LedgerSpec.Replay.{World, past_of, published_at}
+use Rattle.ledger_kept.specs.LedgerSpec.Views.{starts_in}
+use Rattle.ledger_kept.specs.LedgerSpec.declared.step_record.StepRecord.{StepRecord}
+use Rattle.ledger_kept.specs.LedgerSpec.Records.{TellTheRun, AreSteps}
+use Rattle.ledger_kept.proofs.FromLedgerSpec.StartsLaws.{told_start, start_told}
+use Rattle.ledger_kept.specs.ChainIndex.Contents.{Contents}
+use Rattle.ledger_kept.specs.ChainIndex.Laws.{StartsAlike}
 use Rattle.ledger_kept.specs.Kept.{IsIndexOf}
 use Rattle.ledger_views.specs.RecordsSupport.{numbered, contract_by, contract_named, start_at}
 

@@ -2,20 +2,20 @@
 use Rattle.std.specs.Prelude.{◌≡◌, ℕ, if◌then◌else◌, List, [], ◌∷◌, ◌++◌, map, position, slice_get, Option, Some, None}
 use Rattle.std.specs.Option.{unwrap_or}
 use Rattle.contract.specs.declared.input.Input.{Input}
-use Rattle.nodes.specs.declared.cont.Cont.{Cont}
-use Rattle.eutxo_types.specs.declared.output_ref.OutputRef.{OutputRef}
-use Rattle.eutxo_types.specs.declared.output_ref.OutputRef.TheVariants.{Genesis, Made}
-use Rattle.eutxo_types.specs.declared.spend.Spend.{Spend}
-use Rattle.eutxo_types.specs.declared.tx.Tx.{Tx}
-use Rattle.eutxo_types.specs.Parts.{Instance, same_bytes, contract_at, given_to}
-use Rattle.roles.specs.declared.published.Published.{Published}
-use Rattle.roles.specs.Steps.{marlowe}
-use Rattle.roles.specs.Terms.{Terms}
-use Rattle.ledger_laws.specs.Past.{Past}
-use Rattle.ledger_laws.specs.Threads.{Link, Member, next_of, CarriesOne, Carries}
-use Rattle.ledger_spec.specs.declared.step_record.StepRecord.{StepRecord}
-use Rattle.ledger_spec.specs.Records.{member_of}
-use Rattle.chain_index.specs.Contents.{Contents, is_among}
+use Rattle.ledger_kept.specs.Nodes.declared.cont.Cont.{Cont}
+use Rattle.ledger_kept.specs.EutxoTypes.declared.output_ref.OutputRef.{OutputRef}
+use Rattle.ledger_kept.specs.EutxoTypes.declared.output_ref.OutputRef.TheVariants.{Genesis, Made}
+use Rattle.ledger_kept.specs.EutxoTypes.declared.spend.Spend.{Spend}
+use Rattle.ledger_kept.specs.EutxoTypes.declared.tx.Tx.{Tx}
+use Rattle.ledger_kept.specs.EutxoTypes.Parts.{Instance, same_bytes, contract_at, given_to}
+use Rattle.ledger_kept.specs.Roles.declared.published.Published.{Published}
+use Rattle.ledger_kept.specs.Roles.Steps.{marlowe}
+use Rattle.ledger_kept.specs.Roles.Terms.{Terms}
+use Rattle.ledger_kept.specs.LedgerLaws.Past.{Past}
+use Rattle.ledger_kept.specs.LedgerLaws.Threads.{Link, Member, next_of, CarriesOne, Carries}
+use Rattle.ledger_kept.specs.LedgerSpec.declared.step_record.StepRecord.{StepRecord}
+use Rattle.ledger_kept.specs.LedgerSpec.Records.{member_of}
+use Rattle.ledger_kept.specs.ChainIndex.Contents.{Contents, is_among}
 
 -- ---- the start
 

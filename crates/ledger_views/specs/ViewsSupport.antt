@@ -1,13 +1,13 @@
 -- No reader needs this file: what a look shows, as it is read off an index.
 use Rattle.std.specs.Prelude.{ℤ, Option, Some, None}
 use Rattle.std.specs.Map.{lookup}
-use Rattle.eutxo_types.specs.Parts.{same_ref}
-use Rattle.eutxo_types.specs.declared.output_ref.OutputRef.{OutputRef}
-use Rattle.ledger.specs.declared.ask.Ask.{Ask}
-use Rattle.ledger.specs.declared.look.Look.{Look}
-use Rattle.ledger.specs.declared.look.ThreadOutput.{ThreadOutput}
-use Rattle.ledger_spec.specs.Views.{is_key_of, is_payout_of, thread_output_in}
-use Rattle.chain_index.specs.Contents.{Contents, end_in, under_locks_in}
+use Rattle.ledger_kept.specs.EutxoTypes.Parts.{same_ref}
+use Rattle.ledger_kept.specs.EutxoTypes.declared.output_ref.OutputRef.{OutputRef}
+use Rattle.ledger_kept.specs.Ledger.declared.ask.Ask.{Ask}
+use Rattle.ledger_kept.specs.Ledger.declared.look.Look.{Look}
+use Rattle.ledger_kept.specs.Ledger.declared.look.ThreadOutput.{ThreadOutput}
+use Rattle.ledger_kept.specs.LedgerSpec.Views.{is_key_of, is_payout_of, thread_output_in}
+use Rattle.ledger_kept.specs.ChainIndex.Contents.{Contents, end_in, under_locks_in}
 
 -- the unspent output of a thread, with its datum and what is published under its script
 abbrev pub output_shown_in : Contents → Option OutputRef → Option ThreadOutput

@@ -1,16 +1,14 @@
 //! The transactions of a thread.
 ghost use Rattle.std.specs.Prelude.{◌≡◌, true, All, IfOk, Some, is_some, map};
-ghost use Rattle.eutxo_types.specs.Parts.{Instance};
-ghost use Rattle.roles.specs.Steps.{marlowe};
-ghost use Rattle.ledger_laws.specs.Threads.{IsMade, thread};
-ghost use Rattle.ledger_spec.specs.Replay.{past_of, published_at, world};
-ghost use Rattle.chain_index.specs.Laws.{link_at};
+ghost use Rattle.ledger_kept.specs.EutxoTypes.Parts.{Instance};
+ghost use Rattle.ledger_kept.specs.Roles.Steps.{marlowe};
+ghost use Rattle.ledger_kept.specs.LedgerLaws.Threads.{IsMade, thread};
+ghost use Rattle.ledger_kept.specs.LedgerSpec.Replay.{past_of, published_at, world};
+ghost use Rattle.ledger_kept.specs.ChainIndex.Laws.{link_at};
 ghost use Rattle.ledger_kept.specs.Kept.{IsIndexOf};
 
-use chain_index::{Index, StepPlace, index_follows_threads};
-use collections::Memory;
-use eutxo_types::{OutputRef, Tx};
-use ledger_kept::Kept;
+use contract::Memory;
+use ledger_kept::{Index, Kept, OutputRef, StepPlace, Tx, index_follows_threads};
 use std::alloc::Global;
 use std::marker::Model;
 
@@ -23,8 +21,8 @@ pub struct ThreadLink<'a> {
 
 impl<'a> Model for ThreadLink<'a> {
     ghost use Rattle.std.specs.Coded.{codes};
-    ghost use Rattle.eutxo_types.specs.contracts.tx.Tx as txs;
-    ghost use Rattle.ledger_laws.specs.Threads.{Link};
+    ghost use Rattle.ledger_kept.specs.EutxoTypes.contracts.tx.Tx as txs;
+    ghost use Rattle.ledger_kept.specs.LedgerLaws.Threads.{Link};
 
     ghost Value = { Link };
 

@@ -1,28 +1,24 @@
 //! The records of a thread.
 ghost use Rattle.std.specs.Prelude.{◌≡◌, ◌<◌, ◌+◌, ℕ, true, All, List, Option, Some, IfOk, map, drop, length, option_copied};
-ghost use Rattle.roles.specs.declared.published.Published.{Published as Object};
-ghost use Rattle.roles.specs.Steps.{marlowe};
-ghost use Rattle.roles.specs.Terms.{terms_of};
-ghost use Rattle.ledger_laws.specs.Laws.{AreTables};
-ghost use Rattle.ledger_laws.specs.Past.{Past};
-ghost use Rattle.ledger_laws.specs.Threads.{brought_to, brought_by, IsStart, Member, Carries, next_of};
-ghost use Rattle.ledger_spec.specs.declared.step_record.StepRecord.{StepRecord as ARecord};
-ghost use Rattle.ledger_spec.specs.Replay.{past_of, published_at, world};
-ghost use Rattle.ledger_spec.specs.Records.{member_of, HoldsNumber, TellTheRun, AreSteps, HoldNumbers};
+ghost use Rattle.ledger_kept.specs.Roles.declared.published.Published.{Published as Object};
+ghost use Rattle.ledger_kept.specs.Roles.Steps.{marlowe};
+ghost use Rattle.ledger_kept.specs.Roles.Terms.{terms_of};
+ghost use Rattle.ledger_kept.specs.LedgerLaws.Laws.{AreTables};
+ghost use Rattle.ledger_kept.specs.LedgerLaws.Past.{Past};
+ghost use Rattle.ledger_kept.specs.LedgerLaws.Threads.{brought_to, brought_by, IsStart, Member, Carries, next_of};
+ghost use Rattle.ledger_kept.specs.LedgerSpec.declared.step_record.StepRecord.{StepRecord as ARecord};
+ghost use Rattle.ledger_kept.specs.LedgerSpec.Replay.{past_of, published_at, world};
+ghost use Rattle.ledger_kept.specs.LedgerSpec.Records.{member_of, HoldsNumber, TellTheRun, AreSteps, HoldNumbers};
 ghost use Rattle.ledger_kept.specs.Kept.{IsIndexOf};
 ghost use Rattle.ledger_views.specs.RecordsSupport.{goes_to, Leads, given, instance_next, number_after, IsStepOf, IsAStep, IsAThread};
 
 use crate::links::{ThreadLink, thread};
 use crate::start::start_at;
-use chain_index::{Index, index_follows_threads};
-use collections::{Items, Memory, TryClone};
-use contract::{Input, SemFault};
-use eutxo_types::{Cont, Datum, Instance, OutputRef, Spend, Tx};
-use ledger_kept::Kept;
-use ledger_laws::{names_are_single, threads_are_runs};
-use ledger_spec::StepRecord;
-use roles::Published;
-use semantics::Steps;
+use contract::{Input, Items, Memory, SemFault, TryClone};
+use ledger_kept::{
+    Cont, Datum, Index, Instance, Kept, OutputRef, Published, Spend, StepRecord, Steps, Tx,
+    index_follows_threads, names_are_single, threads_are_runs,
+};
 use std::alloc::{AllocError, Global};
 
 // ---- a step

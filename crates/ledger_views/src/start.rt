@@ -1,12 +1,10 @@
 //! Where a thread starts.
 ghost use Rattle.std.specs.Prelude.{◌≡◌, option_copied, position};
-ghost use Rattle.eutxo_types.specs.Parts.{same_bytes};
-ghost use Rattle.ledger_spec.specs.Replay.{world};
+ghost use Rattle.ledger_kept.specs.EutxoTypes.Parts.{same_bytes};
+ghost use Rattle.ledger_kept.specs.LedgerSpec.Replay.{world};
 ghost use Rattle.ledger_views.specs.RecordsSupport.{numbered, contract_by, contract_named, start_at};
 
-use chain_index::Index;
-use eutxo_types::{Instance, OutputRef, Tx};
-use ledger_kept::Kept;
+use ledger_kept::{Index, Instance, Kept, OutputRef, Tx};
 
 // The accepted transaction that has this id.
 fn maker<'a>(kept: &Kept<'a>, index: &Index, id: &[u8; 32]) -> Option<&'a Tx>

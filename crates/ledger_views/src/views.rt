@@ -1,18 +1,16 @@
 //! What a look shows.
 ghost use Rattle.std.specs.Prelude.{◌≡◌, Some, IfOk, option_copied};
-ghost use Rattle.eutxo_types.specs.Parts.{script_in};
-ghost use Rattle.ledger_spec.specs.Replay.{world};
-ghost use Rattle.ledger_spec.specs.Views.{object_under, thread_output, thread_output_in, look};
+ghost use Rattle.ledger_kept.specs.EutxoTypes.Parts.{script_in};
+ghost use Rattle.ledger_kept.specs.LedgerSpec.Replay.{world};
+ghost use Rattle.ledger_kept.specs.LedgerSpec.Views.{object_under, thread_output, thread_output_in, look};
 ghost use Rattle.ledger_kept.specs.Kept.{IsIndexOf};
 ghost use Rattle.ledger_views.specs.ViewsSupport.{output_shown_in, thread_shown_in, look_in};
 
-use chain_index::{Index, index_follows_threads, index_tells_data};
-use collections::{Memory, TryClone};
-use eutxo::Shared;
-use eutxo_types::{Datum, Lock, Output, OutputRef};
-use ledger::{Ask, Look, ThreadOutput};
-use ledger_kept::Kept;
-use roles::Published;
+use contract::{Memory, TryClone};
+use ledger_kept::{
+    Ask, Datum, Index, Kept, Lock, Look, Output, OutputRef, Published, Shared, ThreadOutput,
+    index_follows_threads, index_tells_data,
+};
 use std::alloc::Global;
 
 // ---- a thread

@@ -6,7 +6,7 @@ ghost use Rattle.linear.specs.Combined.{StandsFor, IsMadeOf, combined_at};
 
 use crate::checked::{product, sum};
 use crate::terms::{Term, Terms, combined};
-use collections::{Memory, TryClone};
+use contract::{Memory, TryClone};
 use std::alloc::Global;
 use std::marker::Model;
 

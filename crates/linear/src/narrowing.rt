@@ -8,7 +8,7 @@ use crate::bounds::{Bounds, above_zero, greater, greatest_of, least_of, least_wi
 use crate::checked::negation;
 use crate::linear::Linear;
 use crate::ranges::Ranges;
-use collections::Memory;
+use contract::Memory;
 
 // The range of a symbol with this coefficient in an expression that is at least 0.
 fn range_by(

@@ -3,7 +3,7 @@ ghost use Rattle.std.specs.Prelude.{◌≡◌, ◌+◌, ◌*◌, ◌++◌, ◌�
 ghost use Rattle.linear.specs.Ranged.{before, AreFull, IsRangeAt, IsRangeOf, ArePut, HoldInBoth, IsHull, AreWithin, PartsWithin, PartsOfHull};
 
 use crate::bounds::{Bounds, UNBOUNDED, greatest_of_both, least_of_both};
-use collections::{Memory, TryClone};
+use contract::{Memory, TryClone};
 use std::alloc::{AllocError, Global};
 use std::marker::Model;
 use std::rc::Rc;

@@ -5,7 +5,7 @@ ghost use Rattle.linear.specs.Linear.{TermsBelow};
 ghost use Rattle.linear.specs.WalkSupport.{IsTaken, IsStep, IsPut, NothingLeft, IsNext, AreCombined};
 
 use crate::checked::{product, sum};
-use collections::{Memory, TryClone};
+use contract::{Memory, TryClone};
 use std::alloc::Global;
 use std::marker::Model;
 use std::rc::Rc;

@@ -5,22 +5,22 @@ use Rattle.std.specs.Int.{int_min, int_max}
 use Rattle.std.specs.Option.{unwrap_or}
 use Rattle.std.specs.Ordering.{int_eq, eq_by_cmp}
 use Rattle.std.specs.FinMap.{entries, get-entries}
-use Rattle.collections.proofs.Positive.{AllPositive-find}
-use Rattle.names.specs.declared.account.Account.{Account}
-use Rattle.names.specs.declared.party.Party.{Party}
-use Rattle.names.specs.declared.payee.Payee.{Payee}
-use Rattle.names.specs.declared.payee.Payee.TheVariants.{Account as ToAccount, Party as ToParty}
-use Rattle.names.specs.declared.token.Token.{Token}
-use Rattle.names.specs.Equal.{same_party, same_token}
-use Rattle.names.proofs.EqualLaws.{same_party_decides, same_token_decides}
-use Rattle.names.specs.Orders.{account_cmp}
+use Rattle.contract.proofs.FromCollections.Positive.{AllPositive-find}
+use Rattle.contract.specs.Names.declared.account.Account.{Account}
+use Rattle.contract.specs.Names.declared.party.Party.{Party}
+use Rattle.contract.specs.Names.declared.payee.Payee.{Payee}
+use Rattle.contract.specs.Names.declared.payee.Payee.TheVariants.{Account as ToAccount, Party as ToParty}
+use Rattle.contract.specs.Names.declared.token.Token.{Token}
+use Rattle.contract.specs.Names.Equal.{same_party, same_token}
+use Rattle.contract.proofs.FromNames.EqualLaws.{same_party_decides, same_token_decides}
+use Rattle.contract.specs.Names.Orders.{account_cmp}
 use Rattle.contract.specs.declared.input.Input.{Input}
 use Rattle.contract.specs.declared.input.Input.TheVariants.{Deposit, Choice, Notify}
 use Rattle.contract.specs.declared.interval.Interval.{Interval}
 use Rattle.contract.specs.Tree.{ActionTree, deposit, choice, notify, ContractTree, CaseTrees, close, pay, if_obs, when, let_be, assert, no_cases, case_then}
-use Rattle.states.specs.States.{StateMaps, AllPositive, money_of, with_money, counted}
-use Rattle.states.proofs.Accounts.{money_of-with_money}
-use Rattle.evaluation.specs.Evaluation.{eval, visited}
+use Rattle.contract.specs.States.States.{StateMaps, AllPositive, money_of, with_money, counted}
+use Rattle.contract.proofs.FromStates.Accounts.{money_of-with_money}
+use Rattle.semantics.specs.Evaluation.Evaluation.{eval, visited}
 use Rattle.semantics.specs.Reduction.{Reduction, account_of, balance, debited, credited, paying_lesser, not_paying, binding}
 use Rattle.semantics.specs.Applying.{agrees, matches, taken}
 use Rattle.semantics.specs.Computed.{pay_step, refunds}

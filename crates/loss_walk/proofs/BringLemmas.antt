@@ -4,23 +4,23 @@ use Rattle.std.proofs.lemmas.Int.{ints}
 use Rattle.std.specs.Int.{int_max}
 use Rattle.std.specs.List.{AllByRecursion, list_any}
 use Rattle.std.specs.Option.{IsSomeAnd}
-use Rattle.names.specs.declared.account.Account.{Account}
-use Rattle.names.specs.declared.bound.Bound.{Bound}
-use Rattle.names.specs.declared.choice_id.ChoiceId.{ChoiceId}
-use Rattle.names.specs.declared.party.Party.{Party}
-use Rattle.names.specs.declared.payee.Payee.TheVariants.{Party as ToParty}
-use Rattle.names.specs.declared.token.Token.{Token}
-use Rattle.names.specs.Equal.{same_party, same_token, same_choice_id}
-use Rattle.names.specs.Orders.{account_cmp}
-use Rattle.names.proofs.EqualLaws.{same_choice_id_decides}
+use Rattle.contract.specs.Names.declared.account.Account.{Account}
+use Rattle.contract.specs.Names.declared.bound.Bound.{Bound}
+use Rattle.contract.specs.Names.declared.choice_id.ChoiceId.{ChoiceId}
+use Rattle.contract.specs.Names.declared.party.Party.{Party}
+use Rattle.contract.specs.Names.declared.payee.Payee.TheVariants.{Party as ToParty}
+use Rattle.contract.specs.Names.declared.token.Token.{Token}
+use Rattle.contract.specs.Names.Equal.{same_party, same_token, same_choice_id}
+use Rattle.contract.specs.Names.Orders.{account_cmp}
+use Rattle.contract.proofs.FromNames.EqualLaws.{same_choice_id_decides}
 use Rattle.contract.specs.declared.input.Input.{Input}
 use Rattle.contract.specs.declared.input.Input.TheVariants.{Deposit, Choice, Notify}
 use Rattle.contract.specs.declared.interval.Interval.{Interval}
 use Rattle.contract.specs.declared.payment.Payment.{Payment}
 use Rattle.contract.specs.Tree.{ValueTree, ObservationTree, ActionTree, deposit, choice, notify}
-use Rattle.states.specs.States.{StateMaps, money_of, with_money, counted}
-use Rattle.states.proofs.Accounts.{money_of-with_money}
-use Rattle.evaluation.specs.Evaluation.{eval, visited, looked}
+use Rattle.contract.specs.States.States.{StateMaps, money_of, with_money, counted}
+use Rattle.contract.proofs.FromStates.Accounts.{money_of-with_money}
+use Rattle.semantics.specs.Evaluation.Evaluation.{eval, visited, looked}
 use Rattle.semantics.specs.Reduction.{account_of, balance}
 use Rattle.semantics.specs.Applying.{in_bound, taken, taken_numbers}
 use Rattle.linear.specs.Linear.{Linear, number_at, IsBelow}

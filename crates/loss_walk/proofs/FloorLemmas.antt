@@ -7,9 +7,9 @@ use Rattle.std.specs.List.{AllByRecursion}
 use Rattle.std.specs.Option.{unwrap_or}
 use Rattle.std.specs.Ordering.{eq_by_cmp}
 use Rattle.std.specs.FinMap.Entries.{find, put, find-put}
-use Rattle.names.specs.declared.account.Account.{Account}
-use Rattle.names.specs.Orders.{account_cmp}
-use Rattle.names.specs.Totals.{account_total}
+use Rattle.contract.specs.Names.declared.account.Account.{Account}
+use Rattle.contract.specs.Names.Orders.{account_cmp}
+use Rattle.contract.specs.Names.Totals.{account_total}
 use Rattle.semantics.specs.Reduction.{account_of}
 use Rattle.linear.specs.Linear.{Linear, number}
 use Rattle.losses.specs.declared.loss.Loss.{Loss}

@@ -1,11 +1,11 @@
 -- Tests of sameness, as calls answer them.
 use Rattle.std.proofs.Common.{◌≡◌, Bool, true, false, refl, sym}
 use Rattle.std.specs.Prelude.{◌↔◌, IsTrue}
-use Rattle.names.specs.declared.party.Party.{Party}
-use Rattle.names.specs.declared.token.Token.{Token}
-use Rattle.names.specs.Equal.{same_party, same_token}
-use Rattle.names.specs.Laws.{TellsApart}
-use Rattle.names.proofs.EqualLaws.{same_party_decides, same_token_decides}
+use Rattle.contract.specs.Names.declared.party.Party.{Party}
+use Rattle.contract.specs.Names.declared.token.Token.{Token}
+use Rattle.contract.specs.Names.Equal.{same_party, same_token}
+use Rattle.contract.specs.Names.Laws.{TellsApart}
+use Rattle.contract.proofs.FromNames.EqualLaws.{same_party_decides, same_token_decides}
 
 decided : {X : Type 0} (same : X → X → Bool) → TellsApart same → (a b : X) (r : Bool) → (IsTrue r ↔ (a ≡ b)) → r ≡ same a b
 decided same d a b true h = sym ((d a b).1 (h.0 refl))

@@ -7,14 +7,14 @@ use Rattle.std.specs.Int.{int_max}
 use Rattle.std.specs.List.{AllByRecursion}
 use Rattle.std.specs.Result.{result_unwrap_or}
 use Rattle.std.specs.FinMap.{entries}
-use Rattle.collections.specs.Total.{total}
-use Rattle.names.specs.declared.account.Account.{Account}
-use Rattle.names.specs.declared.party.Party.{Party}
-use Rattle.names.specs.declared.payee.Payee.{Payee}
-use Rattle.names.specs.declared.payee.Payee.TheVariants.{Account as ToAccount, Party as ToParty}
-use Rattle.names.specs.declared.token.Token.{Token}
-use Rattle.names.specs.Equal.{same_party, same_token}
-use Rattle.names.proofs.EqualLaws.{same_party_decides, same_token_decides}
+use Rattle.contract.specs.Collections.Total.{total}
+use Rattle.contract.specs.Names.declared.account.Account.{Account}
+use Rattle.contract.specs.Names.declared.party.Party.{Party}
+use Rattle.contract.specs.Names.declared.payee.Payee.{Payee}
+use Rattle.contract.specs.Names.declared.payee.Payee.TheVariants.{Account as ToAccount, Party as ToParty}
+use Rattle.contract.specs.Names.declared.token.Token.{Token}
+use Rattle.contract.specs.Names.Equal.{same_party, same_token}
+use Rattle.contract.proofs.FromNames.EqualLaws.{same_party_decides, same_token_decides}
 use Rattle.contract.specs.declared.fault.SemFault.{SemFault}
 use Rattle.contract.specs.declared.fault.SemFault.TheVariants.{Leaves128}
 use Rattle.contract.specs.declared.input.Input.{Input}
@@ -22,8 +22,8 @@ use Rattle.contract.specs.declared.input.Input.TheVariants.{Deposit, Choice, Not
 use Rattle.contract.specs.declared.payment.Payment.{Payment}
 use Rattle.contract.specs.declared.transaction.Transaction.{Transaction}
 use Rattle.contract.specs.Tree.{ContractTree}
-use Rattle.states.specs.States.{StateMaps, AllPositive, counted, in_token, total_of}
-use Rattle.evaluation.specs.Numbers.{all_fit}
+use Rattle.contract.specs.States.States.{StateMaps, AllPositive, counted, in_token, total_of}
+use Rattle.semantics.specs.Evaluation.Numbers.{all_fit}
 use Rattle.semantics.specs.Walk.{Standing, standing, answer_of}
 use Rattle.semantics.specs.Reduction.{account_of}
 use Rattle.semantics.specs.Closing.{IsSpent}

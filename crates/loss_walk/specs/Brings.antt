@@ -1,15 +1,15 @@
 -- What is known where a deposit is taken off what its party was paid.
 use Rattle.std.specs.Prelude.{◌≡◌, neg_ℤ, ◌-ℤ◌, true, List, Option}
 use Rattle.std.specs.Option.{IsSomeAnd}
-use Rattle.names.specs.declared.account.Account.{Account}
-use Rattle.names.specs.declared.party.Party.{Party}
-use Rattle.names.specs.declared.payee.Payee.TheVariants.{Party as ToParty}
-use Rattle.names.specs.declared.token.Token.{Token}
+use Rattle.contract.specs.Names.declared.account.Account.{Account}
+use Rattle.contract.specs.Names.declared.party.Party.{Party}
+use Rattle.contract.specs.Names.declared.payee.Payee.TheVariants.{Party as ToParty}
+use Rattle.contract.specs.Names.declared.token.Token.{Token}
 use Rattle.contract.specs.declared.input.Input.{Input}
 use Rattle.contract.specs.declared.interval.Interval.{Interval}
 use Rattle.contract.specs.declared.payment.Payment.{Payment}
 use Rattle.contract.specs.Tree.{ActionTree}
-use Rattle.states.specs.States.{StateMaps}
+use Rattle.contract.specs.States.States.{StateMaps}
 use Rattle.semantics.specs.Reduction.{balance}
 use Rattle.semantics.specs.Applying.{matches, taken}
 use Rattle.linear.specs.Linear.{Linear, Valuation, number_at, IsBelow}

@@ -1,8 +1,8 @@
 -- What parties are paid beside one: no less than that one loses.
 use Rattle.std.specs.Prelude.{ℤ, pos, ◌+ℤ◌, ◌≤ℤ◌, cond, Bool, not, ◌&&◌, List, [], ◌∷◌, IfSome}
 use Rattle.std.specs.List.{AllByRecursion}
-use Rattle.names.specs.declared.account.Account.{Account}
-use Rattle.names.specs.Equal.{same_party, same_token}
+use Rattle.contract.specs.Names.declared.account.Account.{Account}
+use Rattle.contract.specs.Names.Equal.{same_party, same_token}
 use Rattle.contract.specs.declared.payment.Payment.{Payment}
 use Rattle.analysis_spec.specs.declared.paid.PaidRange.{PaidRange}
 use Rattle.analysis_spec.specs.Runs.{paid_to}

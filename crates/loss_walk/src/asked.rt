@@ -1,12 +1,10 @@
 //! Who brings something.
 ghost use Rattle.std.specs.Prelude.{◌≡◌, map};
-ghost use Rattle.names.specs.Equal.{same_party, same_token};
+ghost use Rattle.contract.specs.Names.Equal.{same_party, same_token};
 ghost use Rattle.contract.specs.Tree.{action_tree, case_tree, case_trees, contract_tree};
 ghost use Rattle.loss_walk.specs.Asked.{is_beyond, waits_beyond, asks_beyond, ask_beyond};
 
-use collections::{Items, Memory, Same, TryClone};
-use contract::{Action, Case, Contract};
-use names::{Account, Party, Token};
+use contract::{Account, Action, Case, Contract, Items, Memory, Party, Same, Token, TryClone};
 
 /// The party and the token of a deposit that a contract waits for, if there is one.
 #[cycle(payers)]

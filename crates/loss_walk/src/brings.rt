@@ -8,10 +8,8 @@ ghost use Rattle.loss_walk.specs.Brings.{GivesDifference, PutsHeld, TakesHeld, T
 use analysis_steps::{choose, deposit, notify};
 use analysis_values::Known;
 use analysis_walk::Conclusion;
-use collections::Memory;
-use contract::{Action, Case, Value};
+use contract::{Action, Case, Memory, Party, Token, Value};
 use linear::Linear;
-use names::{Party, Token};
 use std::alloc::Global;
 
 // The sum of two expressions; a number of which nothing is known, where it is too long.

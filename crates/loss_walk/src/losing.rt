@@ -11,11 +11,8 @@ use crate::sole::sole_losses;
 use crate::walk::walk;
 use analysis_spec::PaidRange;
 use analysis_steps::start;
-use collections::{Entries, Items, Memory, TryClone};
-use contract::Contract;
+use contract::{Account, Contract, Entries, Items, Memory, State, TryClone};
 use losses::Loss;
-use names::Account;
-use states::State;
 use std::alloc::Global;
 
 /// What each party can lose of each token in whatever runs from a state: in none that leaves nothing in the contract did it bring

@@ -5,9 +5,7 @@ ghost use Rattle.loss_walk.specs.Floors.{Finds, Nothing, ClosesAbove, LowersAll,
 use crate::floor::{Floor, lowered, noted};
 use analysis_steps::close;
 use analysis_values::Known;
-use collections::{Entries, Memory, TryClone};
-use contract::Action;
-use names::Account;
+use contract::{Account, Action, Entries, Memory, TryClone};
 
 /// One more close: what each party was paid there, less what it brought.
 pub(crate) fn put_close(rows: &mut Entries<Account, Floor>, known: &Known) -> Result<(), Memory>

@@ -12,12 +12,9 @@ ghost use Rattle.loss_walk.specs.Others.{is_other, AddsRange, PaidSoFar};
 use crate::asked::{asks_beyond, is_party, is_token, payer_of};
 use crate::laws::nets_bound_losses;
 use analysis_spec::PaidRange;
-use collections::{Items, Memory};
-use contract::Contract;
+use contract::{Account, Contract, Items, Memory, State};
 use losses::Loss;
-use names::Account;
 use semantics::{accounts_stay_above_zero, money_is_kept, payments_are_natural};
-use states::State;
 use std::alloc::Global;
 
 /// What parties can lose, where one party alone brings something, of one token, and one other is paid of it; or where nobody brings

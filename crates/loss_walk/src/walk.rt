@@ -9,9 +9,7 @@ use crate::rows::{note, put_close};
 use analysis_steps::{assert, bind, branch, later, pay, time_out, wait};
 use analysis_values::Known;
 use analysis_walk::{Branches, Conclusion};
-use collections::{Entries, Memory, TryClone};
-use contract::{Case, Contract};
-use names::Account;
+use contract::{Account, Case, Contract, Entries, Memory, TryClone};
 use std::alloc::Global;
 
 // Whether a contract is Close.

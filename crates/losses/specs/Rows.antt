@@ -1,7 +1,7 @@
 -- Worked losses: what is counted, and runs that break a promise.
 use Rattle.std.specs.Prelude.{◌≡◌, ℤ, pos, neg_ℤ, List, [], ◌∷◌}
-use Rattle.names.specs.declared.party.Party.{Party}
-use Rattle.names.specs.Equal.{ada}
+use Rattle.contract.specs.Names.declared.party.Party.{Party}
+use Rattle.contract.specs.Names.Equal.{ada}
 use Rattle.contract.specs.declared.input.Input.TheVariants.{Deposit}
 use Rattle.contract.specs.declared.transaction.Transaction.{Transaction}
 use Rattle.contract.specs.Tree.{constant, deposit, ContractTree, close, when, no_cases, case_then}

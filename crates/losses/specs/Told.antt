@@ -1,10 +1,10 @@
 -- What is told of losses.
 use Rattle.std.specs.Prelude.{◌≡◌, ◌≢◌, pos, List, IfSome}
 use Rattle.std.specs.List.{AllByRecursion}
-use Rattle.names.specs.declared.party.Party.{Party}
-use Rattle.names.specs.declared.token.Token.{Token}
+use Rattle.contract.specs.Names.declared.party.Party.{Party}
+use Rattle.contract.specs.Names.declared.token.Token.{Token}
 use Rattle.contract.specs.Tree.{ContractTree}
-use Rattle.states.specs.States.{StateMaps}
+use Rattle.contract.specs.States.States.{StateMaps}
 use Rattle.losses.specs.declared.loss.Loss.{Loss}
 use Rattle.losses.specs.Losses.{LosesAtMost}
 

@@ -1,5 +1,5 @@
 //! What a party can lose.
-use names::{Party, Token};
+use contract::{Party, Token};
 
 /// How much more of a token, in its smallest unit, a party brings into a contract than it is paid, once nothing is left in it: at
 /// most `most`. If that is none, it isn't known.

@@ -1,12 +1,12 @@
 -- The code of a contract stands for it.
 use Rattle.std.proofs.Common.{◌≡◌, refl, sym, ap, ◌∙◌, subst, ℕ, ℤ, ◌+◌, ◌<◌, ◌≤◌, List, length, map, arith}
 use Rattle.contract.specs.Tree.{ValueTree, ObservationTree, ActionTree, deposit, choice, notify, ContractTree, close, pay, if_obs, when, let_be, assert, CaseTrees, no_cases, case_then, case_trees}
-use Rattle.names.specs.declared.party.Party.{Party}
-use Rattle.names.specs.declared.payee.Payee.{Payee}
-use Rattle.names.specs.declared.token.Token.{Token}
-use Rattle.nodes.specs.declared.cont.Cont.{Cont}
-use Rattle.nodes.specs.declared.cont_node.ContNode.{ContNode}
-use Rattle.nodes.specs.declared.cont_node.ContNode.TheVariants as conts_nodes
+use Rattle.contract.specs.Names.declared.party.Party.{Party}
+use Rattle.contract.specs.Names.declared.payee.Payee.{Payee}
+use Rattle.contract.specs.Names.declared.token.Token.{Token}
+use Rattle.table.specs.Nodes.declared.cont.Cont.{Cont}
+use Rattle.table.specs.Nodes.declared.cont_node.ContNode.{ContNode}
+use Rattle.table.specs.Nodes.declared.cont_node.ContNode.TheVariants as conts_nodes
 use Rattle.table.specs.Heights.{case_over, case_height, contract_height}
 use Rattle.table.specs.Flat.{Flat, nothing, trees, case_of, cont_of, case_parts, cont_parts, Part, a_value, an_observation, a_case, a_cont, Stands, AllStand, Fine, parts_of, height_of, IsFlat}
 use Rattle.table.proofs.HeightLaws.{case_above, cont_above, above_is}

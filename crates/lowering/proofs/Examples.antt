@@ -4,26 +4,26 @@ use Rattle.std.specs.List.{list_any}
 use Rattle.std.proofs.lemmas.List.Quantifiers.{position-Some}
 use Rattle.std.proofs.lemmas.List.Folds.{list_any_at}
 use base.Stored.{Coded}
-use Rattle.collections.specs.Same.{same_by, same_code}
-use Rattle.collections.proofs.SameLaws.{same_by_decides}
-use Rattle.names.specs.declared.party.Party.{Party}
-use Rattle.names.specs.declared.party.Party.TheVariants.{Address, Role}
-use Rattle.names.specs.declared.token.Token.{Token}
-use Rattle.names.specs.declared.bound.Bound.{Bound}
-use Rattle.names.specs.declared.payee.Payee.TheVariants as payees
-use Rattle.names.specs.Equal.{ada}
-use Rattle.nodes.specs.declared.entry.Entry.{Entry}
-use Rattle.nodes.specs.declared.cont.Cont.{Cont}
-use Rattle.nodes.specs.declared.value_node.ValueNode.{ValueNode}
-use Rattle.nodes.specs.declared.value_node.ValueNode.TheVariants as values
-use Rattle.nodes.specs.declared.observation_node.ObservationNode.TheVariants as observations
-use Rattle.nodes.specs.declared.case_node.CaseNode.{CaseNode}
-use Rattle.nodes.specs.declared.case_node.CaseNode.TheVariants as cases
-use Rattle.nodes.specs.declared.cont_node.ContNode.{ContNode}
-use Rattle.nodes.specs.declared.cont_node.ContNode.TheVariants as conts
-use Rattle.nodes.specs.contracts.value_node.ValueNode as value
-use Rattle.nodes.specs.contracts.case_node.CaseNode as case
-use Rattle.nodes.specs.contracts.cont_node.ContNode as cont
+use Rattle.contract.specs.Collections.Same.{same_by, same_code}
+use Rattle.contract.proofs.FromCollections.SameLaws.{same_by_decides}
+use Rattle.contract.specs.Names.declared.party.Party.{Party}
+use Rattle.contract.specs.Names.declared.party.Party.TheVariants.{Address, Role}
+use Rattle.contract.specs.Names.declared.token.Token.{Token}
+use Rattle.contract.specs.Names.declared.bound.Bound.{Bound}
+use Rattle.contract.specs.Names.declared.payee.Payee.TheVariants as payees
+use Rattle.contract.specs.Names.Equal.{ada}
+use Rattle.table.specs.Nodes.declared.entry.Entry.{Entry}
+use Rattle.table.specs.Nodes.declared.cont.Cont.{Cont}
+use Rattle.table.specs.Nodes.declared.value_node.ValueNode.{ValueNode}
+use Rattle.table.specs.Nodes.declared.value_node.ValueNode.TheVariants as values
+use Rattle.table.specs.Nodes.declared.observation_node.ObservationNode.TheVariants as observations
+use Rattle.table.specs.Nodes.declared.case_node.CaseNode.{CaseNode}
+use Rattle.table.specs.Nodes.declared.case_node.CaseNode.TheVariants as cases
+use Rattle.table.specs.Nodes.declared.cont_node.ContNode.{ContNode}
+use Rattle.table.specs.Nodes.declared.cont_node.ContNode.TheVariants as conts
+use Rattle.table.specs.Nodes.contracts.value_node.ValueNode as value
+use Rattle.table.specs.Nodes.contracts.case_node.CaseNode as case
+use Rattle.table.specs.Nodes.contracts.cont_node.ContNode as cont
 use Rattle.std.specs.Prelude.{option_map}
 use Rattle.table.specs.Flat.{Flat}
 use Rattle.table.specs.Pushing.{with_value, with_case, with_cont}

@@ -1,8 +1,8 @@
 -- The code, the size and the height of each form, of the code's values.
 use Rattle.std.proofs.Common.{◌≡◌, ap, ℕ, ℤ, ◌+◌, ◌<◌, max, List, arith}
-use Rattle.names.specs.declared.party.Party.{Party}
-use Rattle.names.specs.declared.token.Token.{Token}
-use Rattle.names.specs.declared.choice_id.ChoiceId.{ChoiceId}
+use Rattle.contract.specs.Names.declared.party.Party.{Party}
+use Rattle.contract.specs.Names.declared.token.Token.{Token}
+use Rattle.contract.specs.Names.declared.choice_id.ChoiceId.{ChoiceId}
 use Rattle.contract.specs.declared.value.Value.{Value}
 use Rattle.contract.specs.declared.value.Value as values
 use Rattle.contract.specs.declared.value.Observation.{Observation}
@@ -12,8 +12,8 @@ use Rattle.contract.specs.Tree.{ValueTree, available_money, constant, neg_value,
 use Rattle.contract.specs.Tree.{ObservationTree, and_obs, or_obs, not_obs, chose_something, value_ge, value_gt, value_lt, value_le, value_eq, true_obs, false_obs}
 use Rattle.contract.proofs.TreeLaws.{value_tree-AvailableMoney, value_tree-Constant, value_tree-NegValue, value_tree-AddValue, value_tree-SubValue, value_tree-MulValue, value_tree-DivValue, value_tree-ChoiceValue, value_tree-TimeIntervalStart, value_tree-TimeIntervalEnd, value_tree-UseValue, value_tree-Cond}
 use Rattle.contract.proofs.TreeLaws.{observation_tree-AndObs, observation_tree-OrObs, observation_tree-NotObs, observation_tree-ChoseSomething, observation_tree-ValueGE, observation_tree-ValueGT, observation_tree-ValueLT, observation_tree-ValueLE, observation_tree-ValueEQ, observation_tree-TrueObs, observation_tree-FalseObs}
-use Rattle.nodes.specs.declared.value_node.ValueNode.TheVariants as value_nodes
-use Rattle.nodes.specs.declared.observation_node.ObservationNode.TheVariants as observation_nodes
+use Rattle.table.specs.Nodes.declared.value_node.ValueNode.TheVariants as value_nodes
+use Rattle.table.specs.Nodes.declared.observation_node.ObservationNode.TheVariants as observation_nodes
 use Rattle.table.specs.Flat.{Flat}
 use Rattle.table.specs.Heights.{value_height, observation_height}
 use Rattle.lowering.specs.Sizes.{value_size, observation_size}

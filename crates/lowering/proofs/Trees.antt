@@ -1,8 +1,8 @@
 -- The code, the sizes and the height of each form of contract, of the code's contracts, and of cases one by one.
 use Rattle.std.proofs.Common.{◌≡◌, refl, sym, ap, ◌∙◌, ℕ, ℤ, ◌+◌, ◌<◌, ◌≤◌, max, List, [], ◌∷◌, map, arith}
-use Rattle.names.specs.declared.party.Party.{Party}
-use Rattle.names.specs.declared.payee.Payee.{Payee}
-use Rattle.names.specs.declared.token.Token.{Token}
+use Rattle.contract.specs.Names.declared.party.Party.{Party}
+use Rattle.contract.specs.Names.declared.payee.Payee.{Payee}
+use Rattle.contract.specs.Names.declared.token.Token.{Token}
 use Rattle.contract.specs.declared.value.Value.{Value}
 use Rattle.contract.specs.declared.value.Observation.{Observation}
 use Rattle.contract.specs.declared.tree.Case.{Case}
@@ -10,7 +10,7 @@ use Rattle.contract.specs.declared.tree.Contract.{Contract}
 use Rattle.contract.specs.declared.tree.Contract as contracts
 use Rattle.contract.specs.Tree.{ActionTree, deposit, choice, notify, ContractTree, close, pay, if_obs, when, let_be, assert, value_tree, observation_tree, action_tree, case_tree, case_trees, contract_tree}
 use Rattle.contract.proofs.TreeLaws.{contract_tree-Close, contract_tree-Pay, contract_tree-If, contract_tree-When, contract_tree-Let, contract_tree-Assert, case_tree-parts}
-use Rattle.nodes.specs.declared.cont_node.ContNode.TheVariants as nodes
+use Rattle.table.specs.Nodes.declared.cont_node.ContNode.TheVariants as nodes
 use Rattle.table.specs.Flat.{Flat, trees, AllStand, a_case}
 use Rattle.table.specs.Heights.{value_height, observation_height, case_over, contract_height}
 use Rattle.lowering.specs.Sizes.{value_size, observation_size, action_size, conts, conts_of, others, others_of}

@@ -5,12 +5,12 @@ use Rattle.std.specs.Prelude.{ℕ, List, [], ◌∷◌}
 use Rattle.contract.specs.Tree.{ValueTree, available_money, constant, neg_value, add_value, sub_value, mul_value, div_value, choice_value, time_interval_start, time_interval_end, use_value, cond_value}
 use Rattle.contract.specs.Tree.{ObservationTree, and_obs, or_obs, not_obs, chose_something, value_ge, value_gt, value_lt, value_le, value_eq, true_obs, false_obs}
 use Rattle.contract.specs.Tree.{ActionTree, deposit, choice, notify, ContractTree, close, pay, if_obs, when, let_be, assert, CaseTrees, no_cases, case_then}
-use Rattle.nodes.specs.declared.cont.Cont.{Cont}
-use Rattle.nodes.specs.declared.value_node.ValueNode.TheVariants as values
-use Rattle.nodes.specs.declared.observation_node.ObservationNode.TheVariants as observations
-use Rattle.nodes.specs.declared.case_node.CaseNode.{CaseNode}
-use Rattle.nodes.specs.declared.case_node.CaseNode.TheVariants as cases
-use Rattle.nodes.specs.declared.cont_node.ContNode.TheVariants as conts
+use Rattle.table.specs.Nodes.declared.cont.Cont.{Cont}
+use Rattle.table.specs.Nodes.declared.value_node.ValueNode.TheVariants as values
+use Rattle.table.specs.Nodes.declared.observation_node.ObservationNode.TheVariants as observations
+use Rattle.table.specs.Nodes.declared.case_node.CaseNode.{CaseNode}
+use Rattle.table.specs.Nodes.declared.case_node.CaseNode.TheVariants as cases
+use Rattle.table.specs.Nodes.declared.cont_node.ContNode.TheVariants as conts
 use Rattle.table.specs.Flat.{Flat, nothing}
 use Rattle.table_builder.specs.Putting.{put_value, put_observation, put_case, put_cont}
 

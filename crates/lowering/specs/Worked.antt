@@ -1,19 +1,19 @@
 -- Worked tables: of small contracts, and of contracts whose nodes differ in one term alone.
 use Rattle.std.specs.Prelude.{◌≡◌, ℕ, pos, List, [], ◌∷◌}
-use Rattle.names.specs.declared.party.Party.{Party}
-use Rattle.names.specs.declared.party.Party.TheVariants as parties
-use Rattle.names.specs.declared.payee.Payee.TheVariants as payees
-use Rattle.names.specs.declared.token.Token.{Token}
-use Rattle.names.specs.declared.choice_id.ChoiceId.{ChoiceId}
-use Rattle.names.specs.declared.bound.Bound.{Bound}
-use Rattle.names.specs.Equal.{ada}
+use Rattle.contract.specs.Names.declared.party.Party.{Party}
+use Rattle.contract.specs.Names.declared.party.Party.TheVariants as parties
+use Rattle.contract.specs.Names.declared.payee.Payee.TheVariants as payees
+use Rattle.contract.specs.Names.declared.token.Token.{Token}
+use Rattle.contract.specs.Names.declared.choice_id.ChoiceId.{ChoiceId}
+use Rattle.contract.specs.Names.declared.bound.Bound.{Bound}
+use Rattle.contract.specs.Names.Equal.{ada}
 use Rattle.contract.specs.Tree.{available_money, constant, add_value, cond_value, true_obs, deposit, choice, notify, ContractTree, close, pay, if_obs, when, let_be, no_cases, case_then}
-use Rattle.nodes.specs.declared.entry.Entry.{Entry}
-use Rattle.nodes.specs.declared.cont.Cont.{Cont}
-use Rattle.nodes.specs.declared.value_node.ValueNode.TheVariants as values
-use Rattle.nodes.specs.declared.observation_node.ObservationNode.TheVariants as observations
-use Rattle.nodes.specs.declared.case_node.CaseNode.TheVariants as cases
-use Rattle.nodes.specs.declared.cont_node.ContNode.TheVariants as conts
+use Rattle.table.specs.Nodes.declared.entry.Entry.{Entry}
+use Rattle.table.specs.Nodes.declared.cont.Cont.{Cont}
+use Rattle.table.specs.Nodes.declared.value_node.ValueNode.TheVariants as values
+use Rattle.table.specs.Nodes.declared.observation_node.ObservationNode.TheVariants as observations
+use Rattle.table.specs.Nodes.declared.case_node.CaseNode.TheVariants as cases
+use Rattle.table.specs.Nodes.declared.cont_node.ContNode.TheVariants as conts
 use Rattle.lowering.specs.Code.{code}
 
 -- ---- the roles a, b and s, a choice of b, bounds, and nodes with their heights

@@ -9,9 +9,7 @@ ghost use Rattle.lowering.specs.Code.{case_node, code, code_action, code_contrac
 ghost use Rattle.lowering.specs.Building.{cases_height, others_of_case, code_of_case, ActionStands, HasRoom};
 
 use crate::values::{add_observation, add_value};
-use collections::{Items, Memory, Text, TryClone};
-use contract::{Action, Case, Contract};
-use names::{Party, Payee, Token};
+use contract::{Action, Case, Contract, Items, Memory, Party, Payee, Text, Token, TryClone};
 use std::alloc::Global;
 use table::{CaseNode, Cont, ContNode, Table};
 use table_builder::Builder;

@@ -5,8 +5,7 @@ ghost use Rattle.table.specs.Heights.{value_height, observation_height, case_ove
 ghost use Rattle.lowering.specs.Sizes.{value_size, observation_size, action_size, conts, conts_of, others, others_of, Leaves};
 ghost use Rattle.lowering.specs.Building.{cases_height, others_of_case};
 
-use collections::Items;
-use contract::{Action, Case, Contract, Observation, Value};
+use contract::{Action, Case, Contract, Items, Observation, Value};
 
 // ---- heights
 

@@ -7,8 +7,7 @@ ghost use Rattle.lowering.specs.Sizes.{value_size, observation_size};
 ghost use Rattle.lowering.specs.Code.{code_value, code_observation};
 ghost use Rattle.lowering.specs.Building.{HasRoom, code_values, code_observations};
 
-use collections::{Boxed, Memory, TryClone};
-use contract::{Observation, Value};
+use contract::{Boxed, Memory, Observation, TryClone, Value};
 use table::{ObservationNode, ValueNode};
 use table_builder::Builder;
 

@@ -1,2 +1,4 @@
 pub mod Matching
 pub mod SpellingLaws
+pub mod FromContractBytes
+pub mod FromSemantics

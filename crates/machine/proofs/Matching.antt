@@ -2,8 +2,8 @@
 use Rattle.std.proofs.Common.{◌≡◌, ℤ, List, Option, Some, None, Ok, Err}
 use Rattle.contract.specs.declared.fault.SemFault.{SemFault}
 use Rattle.contract.specs.Tree.{ContractTree}
-use Rattle.evaluation.specs.Numbers.{within}
-use Rattle.nodes.specs.declared.cont.Cont.{Cont}
+use Rattle.semantics.specs.Evaluation.Numbers.{within}
+use Rattle.table.specs.Nodes.declared.cont.Cont.{Cont}
 use Rattle.semantics.specs.Answer.{tree_of_next}
 use Rattle.table.specs.declared.leaves.Leaves128.{Leaves128}
 use Rattle.table.specs.Flat.{Flat, cont_tree}

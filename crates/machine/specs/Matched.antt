@@ -1,9 +1,9 @@
 -- What finding a case answers, as the definitions see it.
 use Rattle.std.specs.Prelude.{List, Option, Some, None, Result, Ok, Err}
 use Rattle.contract.specs.Tree.{ActionTree, ContractTree}
-use Rattle.evaluation.specs.Path.{waits_for}
+use Rattle.semantics.specs.Evaluation.Path.{waits_for}
 use Rattle.machine.specs.declared.datum.Datum.{Datum}
-use Rattle.nodes.specs.declared.cont.Cont.{Cont}
+use Rattle.table.specs.Nodes.declared.cont.Cont.{Cont}
 use Rattle.table.specs.declared.leaves.Leaves128.{Leaves128}
 use Rattle.table.specs.Flat.{Flat, cont_tree}
 

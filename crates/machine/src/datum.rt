@@ -1,6 +1,5 @@
 //! Where a contract of a table stands.
-use collections::{Memory, Same, TryClone};
-use contract::State;
+use contract::{Memory, Same, State, TryClone};
 use std::hash::Hash;
 use table::Cont;
 
@@ -29,8 +28,8 @@ impl Same for Datum {
 }
 
 impl PartialEq for Datum {
-    ghost use Rattle.collections.specs.Same.{same_by};
-    ghost use Rattle.collections.proofs.SameLaws.{same_by-partial};
+    ghost use Rattle.contract.specs.Collections.Same.{same_by};
+    ghost use Rattle.contract.proofs.FromCollections.SameLaws.{same_by-partial};
     ghost use Rattle.machine.specs.contracts.datum.Datum as it;
 
     ghost eq = { same_by it.the_row.coded };
@@ -43,7 +42,7 @@ impl PartialEq for Datum {
 }
 
 impl Eq for Datum {
-    ghost use Rattle.collections.proofs.SameLaws.{same_by-equiv};
+    ghost use Rattle.contract.proofs.FromCollections.SameLaws.{same_by-equiv};
     ghost use Rattle.machine.specs.contracts.datum.Datum as it;
 
     ghost laws = { same_by-equiv it.the_row.coded };
@@ -52,7 +51,7 @@ impl Eq for Datum {
 #[derived]
 impl Hash for Datum {
     ghost use Rattle.std.specs.Hash.{same_Alike};
-    ghost use Rattle.collections.proofs.SameLaws.{same_by_decides};
+    ghost use Rattle.contract.proofs.FromCollections.SameLaws.{same_by_decides};
     ghost use Rattle.machine.specs.contracts.datum.Datum as it;
 
     ghost respects_eq = { (same_Alike _ (same_by_decides it.the_row.coded)).fed };

@@ -6,5 +6,9 @@ mod datum;
 mod machine;
 mod spelling;
 
+pub use contract_bytes;
 pub use datum::Datum;
 pub use machine::{compute, matching_case};
+pub use semantics;
+pub use semantics::evaluation;
+pub use table;

@@ -1,11 +1,11 @@
 //! One transaction from where a contract of a table stands.
 ghost use Rattle.std.specs.Prelude.{◌≡◌, [], ◌∷◌, IfOk, Some};
 ghost use Rattle.std.specs.Option.{IfSome};
-ghost use Rattle.evaluation.specs.Path.{in_case};
+ghost use Rattle.semantics.specs.Evaluation.Path.{in_case};
 ghost use Rattle.table.specs.Flat.{Has, a_cont, cont_tree};
 ghost use Rattle.table.specs.Along.{cont_along};
 ghost use Rattle.table.specs.Leaves.{fitting};
-ghost use Rattle.collections.specs.Answers.{AsideBy};
+ghost use Rattle.contract.specs.Collections.Answers.{AsideBy};
 ghost use Rattle.semantics.specs.Walk.{standing, answer_of};
 ghost use Rattle.semantics.specs.Computed.{computed, first_match, first_match_index, tried_to_match};
 ghost use Rattle.machine.specs.Matched.{contract_found, cases_at};

@@ -3,7 +3,7 @@ ghost use Rattle.std.specs.Prelude.{◌≡◌, ◌<◌, ◌^◌, ◌++◌, OnOk,
 ghost use Rattle.machine.specs.Spelling.{cont_bytes, datum_bytes, DatumFits};
 
 use crate::datum::Datum;
-use collections::Memory;
+use contract::Memory;
 use contract_bytes::Spell;
 
 #[tactic(auto, unfolding(crate::specs::Spelling::cont_bytes))]

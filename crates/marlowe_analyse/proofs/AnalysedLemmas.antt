@@ -5,7 +5,7 @@ use Rattle.std.specs.List.{AllByRecursion}
 use Rattle.std.proofs.lemmas.List.Elements.{All-from_recursion, recursion_from_All, All-contains, All-contains_itself, All-weaker}
 use Rattle.std.proofs.lemmas.Bool.Decides.{Decides-eqb}
 use Rattle.contract.specs.Tree.{ContractTree}
-use Rattle.states.specs.States.{StateMaps}
+use Rattle.contract.specs.States.States.{StateMaps}
 use Rattle.analysis_spec.specs.declared.kind.AlarmKind.{AlarmKind}
 use Rattle.analysis_spec.specs.declared.kind.AlarmKind.TheVariants.{Leaves128}
 use Rattle.analysis_spec.specs.declared.alarm.Alarm.{Alarm}

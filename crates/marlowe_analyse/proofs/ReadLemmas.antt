@@ -1,17 +1,17 @@
 -- What is read, and what is told of it.
 use Rattle.std.proofs.Common.{◌≡◌, ◌≢◌, ℕ, Bool, true, List, refl, sym, ap, ◌∙◌, subst, Option, Some, None, Result, Ok, Err}
 use Rattle.std.specs.Prelude.{IfOk, is_some, option_map}
-use Rattle.collections.specs.Answers.{◌>>=◌, AsideBy}
+use Rattle.contract.specs.Collections.Answers.{◌>>=◌, AsideBy}
 use Rattle.contract.specs.declared.tree.Contract.{Contract}
 use Rattle.contract.specs.Tree.{ContractTree, contract_tree}
-use Rattle.states.specs.States.{StateMaps}
-use Rattle.json_read_names.specs.declared.fault.JsonFault.{JsonFault}
-use Rattle.json_read_names.specs.declared.fault.JsonFault.TheVariants as json
-use Rattle.marlowe_refusals.specs.declared.fault.RunFault.{RunFault}
-use Rattle.marlowe_refusals.specs.declared.fault.RunFault.TheVariants as run
-use Rattle.marlowe_refusals.specs.Faults.{read_as, contract_fault, state_fault}
-use Rattle.json_read_names.specs.ReadsText.{of_text_within}
-use Rattle.json_read_contracts.specs.ReadsContract.{contract}
+use Rattle.contract.specs.States.States.{StateMaps}
+use Rattle.marlowe_run.specs.JsonReadNames.declared.fault.JsonFault.{JsonFault}
+use Rattle.marlowe_run.specs.JsonReadNames.declared.fault.JsonFault.TheVariants as json
+use Rattle.marlowe_run.specs.MarloweRefusals.declared.fault.RunFault.{RunFault}
+use Rattle.marlowe_run.specs.MarloweRefusals.declared.fault.RunFault.TheVariants as run
+use Rattle.marlowe_run.specs.MarloweRefusals.Faults.{read_as, contract_fault, state_fault}
+use Rattle.marlowe_run.specs.JsonReadNames.ReadsText.{of_text_within}
+use Rattle.marlowe_run.specs.JsonReadContracts.ReadsContract.{contract}
 use Rattle.marlowe_analyse.specs.declared.analysed.Analysed.{Analysed}
 use Rattle.marlowe_analyse.specs.declared.analysed.Telling.{Telling}
 use Rattle.marlowe_run.specs.declared.readable.Readable.{Readable}

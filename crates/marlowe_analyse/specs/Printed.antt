@@ -1,18 +1,18 @@
 -- What is printed of a contract's text and a state's.
 use Rattle.std.specs.Prelude.{◌≡◌, ◌↔◌, ℕ, ℤ, Bool, true, false, not, ◌||◌, if◌then◌else◌, List, [], map, Option, option_map, IfSome, is_some, Result, Ok}
-use Rattle.collections.specs.Answers.{◌>>=◌}
+use Rattle.contract.specs.Collections.Answers.{◌>>=◌}
 use Rattle.contract.specs.Tree.{ContractTree, contract_tree}
-use Rattle.states.specs.States.{StateMaps}
-use Rattle.json_read_names.specs.ReadsText.{of_text_within}
-use Rattle.json_read_contracts.specs.ReadsContract.{contract}
+use Rattle.contract.specs.States.States.{StateMaps}
+use Rattle.marlowe_run.specs.JsonReadNames.ReadsText.{of_text_within}
+use Rattle.marlowe_run.specs.JsonReadContracts.ReadsContract.{contract}
 use Rattle.analysis_spec.specs.declared.path.PathStep.{PathStep}
 use Rattle.bound_runs.specs.declared.shown.ShownRange.{ShownRange}
 use Rattle.bound_runs.specs.declared.shown.ShownLoss.{ShownLoss}
 use Rattle.bound_runs.specs.Told.{AreReached, AreLost, ranges_of, losses_of}
 use Rattle.places.specs.declared.key.Key.{Key}
 use Rattle.places.specs.Places.{path_keys}
-use Rattle.marlowe_refusals.specs.declared.fault.RunFault.{RunFault}
-use Rattle.marlowe_refusals.specs.Faults.{read_as, contract_fault, state_fault}
+use Rattle.marlowe_run.specs.MarloweRefusals.declared.fault.RunFault.{RunFault}
+use Rattle.marlowe_run.specs.MarloweRefusals.Faults.{read_as, contract_fault, state_fault}
 use Rattle.marlowe_run.specs.declared.readable.Readable.{Readable}
 use Rattle.marlowe_run.specs.Start.{start_of}
 use Rattle.alike_alarms.specs.Alike.{AreHeads}

@@ -1,16 +1,16 @@
 -- What is told of all alarms. It serves proofs alone.
 use Rattle.std.specs.Prelude.{◌≡◌, ◌+◌, ◌<◌, ℕ, nat_eq, Bool, if◌then◌else◌, List, [], ◌∷◌, map, All, Contains, get_or, Option, None, is_some, Result, Ok}
 use Rattle.std.specs.List.{AllByRecursion, starts_with}
-use Rattle.collections.specs.Answers.{◌>>=◌}
+use Rattle.contract.specs.Collections.Answers.{◌>>=◌}
 use Rattle.contract.specs.Tree.{ContractTree}
-use Rattle.states.specs.States.{StateMaps}
+use Rattle.contract.specs.States.States.{StateMaps}
 use Rattle.analysis_spec.specs.declared.alarm.Alarm.{Alarm}
 use Rattle.analysis_spec.specs.declared.paid.PaidRange.{PaidRange}
 use Rattle.analysis_spec.specs.declared.path.PathStep.{PathStep}
 use Rattle.analysis_spec.specs.Analysed.{PaysWithinRanges, PaysOthersNothing}
-use Rattle.json_read_names.specs.declared.fault.JsonFault.{JsonFault}
-use Rattle.marlowe_refusals.specs.declared.fault.RunFault.{RunFault}
-use Rattle.marlowe_refusals.specs.Faults.{read_as, state_fault}
+use Rattle.marlowe_run.specs.JsonReadNames.declared.fault.JsonFault.{JsonFault}
+use Rattle.marlowe_run.specs.MarloweRefusals.declared.fault.RunFault.{RunFault}
+use Rattle.marlowe_run.specs.MarloweRefusals.Faults.{read_as, state_fault}
 use Rattle.marlowe_run.specs.Start.{start_of}
 use Rattle.marlowe_analyse.specs.declared.analysed.Analysed.{Analysed}
 use Rattle.marlowe_analyse.specs.declared.analysed.Telling.{Telling}

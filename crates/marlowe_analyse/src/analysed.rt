@@ -1,6 +1,6 @@
 //! The analysis of a contract, from text to text.
 ghost use Rattle.std.specs.Prelude.{◌≡◌, true, not, ◌||◌, map, All, IfOk, IfSome};
-ghost use Rattle.collections.specs.Answers.{AsideBy};
+ghost use Rattle.contract.specs.Collections.Answers.{AsideBy};
 ghost use Rattle.contract.specs.Tree.{contract_tree};
 ghost use Rattle.marlowe_run.specs.Start.{start_of};
 ghost use Rattle.bound_runs.specs.Told.{RangeHasNumbers, LossHasNumbers};
@@ -18,11 +18,8 @@ use analysis::analyse;
 use analysis_lines::{Told, json_for_tools, lines_for_people};
 use analysis_walk::Analysis;
 use bound_runs::{Shown, with_runs};
-use collections::Memory;
-use contract::{Contract, State};
-use contract_json::read_contract_within;
-use marlowe_refusals::RunFault;
-use marlowe_run::{Readable, beside_dropped, read_start};
+use contract::{Contract, Memory, State};
+use marlowe_run::{Readable, RunFault, beside_dropped, read_contract_within, read_start};
 use std::alloc::Global;
 
 /// How an analysis is told.

@@ -8,8 +8,7 @@ ghost use Rattle.marlowe_analyse.specs.OnceSupport.{seen_told, ToldOnce, HaveHea
 
 use alike_alarms::{Seen, heads_of};
 use analysis_lines::ToldAlarm;
-use collections::Memory;
-use contract::Contract;
+use contract::{Contract, Memory};
 use std::alloc::Global;
 
 /// The same alarms; where each kind at equal parts is told once, with how many others each is told, or that it is told with another.

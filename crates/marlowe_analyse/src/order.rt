@@ -5,7 +5,7 @@ ghost use Rattle.marlowe_analyse.specs.Order.{alarm_key, key_cmp, kind_rank, ste
 ghost use Rattle.marlowe_analyse.specs.OrderSupport.{HasKey, StandForAll, IsNewAt, IsOldAt};
 
 use analysis_spec::{Alarm, AlarmKind, PathStep};
-use collections::Memory;
+use contract::Memory;
 use std::alloc::Global;
 
 /// An alarm, with the numbers by which it stands before others.

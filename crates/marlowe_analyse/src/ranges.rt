@@ -5,8 +5,7 @@ ghost use Rattle.marlowe_analyse.specs.Told.{LeastsCanCome};
 ghost use Rattle.marlowe_analyse.specs.RunsSupport.{HoldRanges, without_least};
 
 use analysis_spec::PaidRange;
-use collections::{Items, Memory};
-use contract::{Contract, State};
+use contract::{Contract, Items, Memory, State};
 use counter_runs::can_close;
 use std::alloc::Global;
 

@@ -7,8 +7,7 @@ ghost use Rattle.marlowe_analyse.specs.Told.{IsOut, AreLosses};
 
 use analysis_spec::{Alarm, AlarmKind, PaidRange};
 use closing_times::{contracts_close_from_their_last_timeout, last_timeout};
-use collections::{Items, Memory};
-use contract::{Contract, State};
+use contract::{Contract, Items, Memory, State};
 use loss_walk::losses_of;
 use losses::Loss;
 use std::alloc::Global;

@@ -7,7 +7,7 @@ ghost use Rattle.marlowe_analyse.specs.RunsSupport.{TellPlaces, IsSpotOf, lies_b
 
 use crate::order::put_steps;
 use analysis_spec::PathStep;
-use collections::{Items, Memory};
+use contract::{Items, Memory};
 use places::{Key, path_keys};
 use std::alloc::Global;
 

@@ -2,14 +2,14 @@
 use Rattle.std.proofs.Common.{◌≡◌, ◌⊎◌, ◌∙◌, ◌<◌, ◌-◌, ℕ, List, [], Some, Vec, Global, Result, Ok, Err, IfOk, get_or, length, map, option_map, inl, inr, refl, sym, ap, subst}
 use Rattle.std.specs.Prelude.{slice_get}
 use Rattle.std.proofs.lemmas.Option.{slice_get-map, slice_get_read}
-use Rattle.json_members.specs.declared.spelling.Spelling.{Spelling}
+use Rattle.serve.specs.JsonMembers.declared.spelling.Spelling.{Spelling}
 use Rattle.file_parts.specs.declared.named.FileName.{FileName}
 use Rattle.scenario_files.specs.declared.fault.FilesFault.{FilesFault}
 use Rattle.scenario_files.specs.declared.fault.FilesFault.TheVariants as faults
 use Rattle.scenario_files.specs.Paths.{IsBeside}
 use Rattle.scenario_files.specs.ScenarioFiles.{IsFaultOf, files_status}
-use Rattle.refusal_reasons.specs.declared.source.Source.{Source}
-use Rattle.refusal_reasons.specs.Reasons.{TellsOfTable}
+use Rattle.serve.specs.RefusalReasons.declared.source.Source.{Source}
+use Rattle.serve.specs.RefusalReasons.Reasons.{TellsOfTable}
 use Rattle.marlowe_commands.specs.declared.face.Face.{Face}
 use Rattle.marlowe_commands.specs.declared.files.Joined.{Joined}
 use Rattle.marlowe_commands.specs.declared.files.Joined.TheVariants as joined

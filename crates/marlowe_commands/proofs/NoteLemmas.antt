@@ -3,7 +3,7 @@ use Rattle.std.proofs.Common.{◌≡◌, ◌⊎◌, ◌∙◌, ℕ, List, [], �
 use Rattle.std.specs.Prelude.{◌++◌}
 use Rattle.std.specs.Str.{IsUtf8}
 use Rattle.std.proofs.lemmas.List.{append-nil, append_assoc}
-use Rattle.json_forms.specs.declared.sort.Sort.{Sort}
+use Rattle.serve.specs.JsonForms.declared.sort.Sort.{Sort}
 use Rattle.unread_keys.specs.Unread.{notes_in}
 use Rattle.unread_notes.specs.Notes.{AreNotes as FileNotes}
 use Rattle.marlowe_commands.specs.Streams.{AreNotes, AreOfFiles}

@@ -5,23 +5,23 @@ use Rattle.std.proofs.lemmas.Bool.{true≢false}
 use Rattle.std.proofs.lemmas.List.{append-nil, append_assoc}
 use Rattle.std.proofs.Math.Dec.{eqb}
 use Rattle.clap.specs.Words.{Row, Text}
-use Rattle.json_members.specs.declared.spelling.Spelling.{Spelling}
-use Rattle.marlowe_refusals.specs.declared.fault.Fault.{Fault}
-use Rattle.marlowe_refusals.specs.declared.fault.Fault.TheVariants as fault
-use Rattle.marlowe_refusals.specs.declared.fault.RunFault.{RunFault}
-use Rattle.marlowe_refusals.specs.declared.fault.RunFault.TheVariants as run
-use Rattle.marlowe_refusals.specs.declared.table_fault.TableFault.{TableFault}
-use Rattle.marlowe_refusals.specs.declared.table_fault.TableFault.TheVariants as table
-use Rattle.marlowe_refusals.specs.declared.trace_fault.TraceFault.{TraceFault}
-use Rattle.marlowe_refusals.specs.declared.trace_fault.TraceFault.TheVariants as trace
-use Rattle.refusal_objects.specs.Objects.{refused_line, fault_status, run_status, table_status, trace_status}
+use Rattle.serve.specs.JsonMembers.declared.spelling.Spelling.{Spelling}
+use Rattle.marlowe_play.specs.MarloweRefusals.declared.fault.Fault.{Fault}
+use Rattle.marlowe_play.specs.MarloweRefusals.declared.fault.Fault.TheVariants as fault
+use Rattle.marlowe_play.specs.MarloweRefusals.declared.fault.RunFault.{RunFault}
+use Rattle.marlowe_play.specs.MarloweRefusals.declared.fault.RunFault.TheVariants as run
+use Rattle.marlowe_play.specs.MarloweRefusals.declared.table_fault.TableFault.{TableFault}
+use Rattle.marlowe_play.specs.MarloweRefusals.declared.table_fault.TableFault.TheVariants as table
+use Rattle.marlowe_play.specs.MarloweRefusals.declared.trace_fault.TraceFault.{TraceFault}
+use Rattle.marlowe_play.specs.MarloweRefusals.declared.trace_fault.TraceFault.TheVariants as trace
+use Rattle.serve.specs.RefusalObjects.Objects.{refused_line, fault_status, run_status, table_status, trace_status}
 use Rattle.marlowe_run.specs.declared.readable.Readable.{Readable}
-use Rattle.marlowe_trace.specs.Traced.{Told}
-use Rattle.marlowe_next.specs.declared.asked.Asked.{Asked}
-use Rattle.marlowe_next.specs.Question.{Reached}
-use Rattle.marlowe_analyse.specs.declared.analysed.Telling.{Telling}
-use Rattle.json_read_names.specs.Parts.{Reading}
-use Rattle.plans.specs.declared.scenario.Scenario.{Scenario}
+use Rattle.serve.specs.MarloweTrace.Traced.{Told}
+use Rattle.serve.specs.MarloweNext.declared.asked.Asked.{Asked}
+use Rattle.serve.specs.MarloweNext.Question.{Reached}
+use Rattle.serve.specs.MarloweAnalyse.declared.analysed.Telling.{Telling}
+use Rattle.marlowe_play.specs.JsonReadNames.Parts.{Reading}
+use Rattle.marlowe_play.specs.Plans.declared.scenario.Scenario.{Scenario}
 use Rattle.marlowe_play.specs.Played.{Wanted}
 use Rattle.marlowe_cli.specs.declared.task.Task.{Task}
 use Rattle.marlowe_cli.specs.Asked.{IsAsked}

@@ -8,8 +8,8 @@ use Rattle.marlowe_cli.specs.declared.task.Task.{Task}
 use Rattle.marlowe_cli.specs.declared.task.Task.TheVariants.{Run, Trace, Next, Table, Analyse, Play, Serve}
 use Rattle.marlowe_cli.specs.Asked.{IsAsked, IsDepth}
 use Rattle.marlowe_run.specs.declared.readable.Readable.{Readable}
-use Rattle.marlowe_analyse.specs.declared.analysed.Telling.{Telling}
-use Rattle.marlowe_analyse.specs.Printed.{TellsSo}
+use Rattle.serve.specs.MarloweAnalyse.declared.analysed.Telling.{Telling}
+use Rattle.serve.specs.MarloweAnalyse.Printed.{TellsSo}
 use Rattle.marlowe_commands.specs.declared.face.Face.{Face}
 use Rattle.marlowe_commands.specs.Streams.{Saying, says}
 use Rattle.marlowe_commands.specs.Tasks.{AsksFor, AsksForAlarms, AsksForStream, IsTrace, MayAlarm, SaysAnalysis, WantsFaceIn, analysis_status, face_of, stream_of}

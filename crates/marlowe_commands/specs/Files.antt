@@ -4,9 +4,9 @@ use Rattle.file_parts.specs.declared.named.FileName.{FileName}
 use Rattle.scenario_files.specs.declared.fault.FilesFault.{FilesFault}
 use Rattle.scenario_files.specs.Paths.{IsBeside}
 use Rattle.scenario_files.specs.ScenarioFiles.{IsFaultOf, IsWithFiles, files_members, files_refusal, files_status}
-use Rattle.json_members.specs.declared.spelling.Spelling.{Spelling}
-use Rattle.refusal_reasons.specs.declared.source.Source.{Source}
-use Rattle.refusal_reasons.specs.Reasons.{TellsOfTable}
+use Rattle.serve.specs.JsonMembers.declared.spelling.Spelling.{Spelling}
+use Rattle.serve.specs.RefusalReasons.declared.source.Source.{Source}
+use Rattle.serve.specs.RefusalReasons.Reasons.{TellsOfTable}
 use Rattle.marlowe_commands.specs.declared.face.Face.{Face}
 use Rattle.marlowe_commands.specs.declared.files.Joined.{Joined}
 use Rattle.marlowe_commands.specs.declared.files.Joined.TheVariants as joined

@@ -1,8 +1,8 @@
 -- What is told of a scenario that stands in a request.
 use Rattle.std.specs.Prelude.{◌≡◌, ℕ, Bool, false, List, [], Option, Some, None, Result, Ok, Err, codes}
-use Rattle.json_read_names.specs.ReadsText.{of_text_within}
-use Rattle.json_read_names.specs.declared.fault.JsonFault.TheVariants as json
-use Rattle.json_read_scenarios.specs.ReadsScenario as reads
+use Rattle.marlowe_play.specs.JsonReadNames.ReadsText.{of_text_within}
+use Rattle.marlowe_play.specs.JsonReadNames.declared.fault.JsonFault.TheVariants as json
+use Rattle.marlowe_play.specs.JsonReadScenarios.ReadsScenario as reads
 use Rattle.marlowe_play.specs.Faults.{IsRefused}
 use Rattle.marlowe_play.specs.Played.{IsAnswered, wanted}
 use Rattle.marlowe_play.specs.declared.asked.Face.TheVariants.{Objects}
@@ -10,7 +10,7 @@ use Rattle.marlowe_play.specs.declared.asked.Played.{Played}
 use Rattle.marlowe_play.specs.declared.fault.PlayFault.{PlayFault}
 use Rattle.marlowe_play.specs.declared.fault.PlayFault.TheVariants as playing
 use Rattle.marlowe_run.specs.declared.readable.Readable.{Readable}
-use Rattle.requests.specs.Ids.{SpellsId}
+use Rattle.serve.specs.Requests.Ids.{SpellsId}
 use Rattle.serde_json.specs.Data.{Data}
 use Rattle.serde_json.specs.Find.{get}
 use Rattle.serve.specs.Playing.{PlayTold}

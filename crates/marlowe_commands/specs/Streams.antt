@@ -2,13 +2,13 @@
 use Rattle.std.specs.Prelude.{◌≡◌, ◌⊎◌, ℕ, Bool, true, false, List, [], ◌∷◌, ◌++◌, codes}
 use Rattle.std.specs.Str.{IsUtf8}
 use Rattle.serde_json.specs.Data.{string}
-use Rattle.json_forms.specs.declared.sort.Sort.{Sort}
+use Rattle.serve.specs.JsonForms.declared.sort.Sort.{Sort}
 use Rattle.unread_keys.specs.Unread.{notes_in}
 use Rattle.unread_notes.specs.Notes.{AreNotes as FileNotes}
-use Rattle.json_members.specs.Members.{next_member}
-use Rattle.json_members.specs.declared.spelling.Spelling.{Spelling}
-use Rattle.json_members.specs.declared.spelling.Spelling.TheVariants.{Lines, Members}
-use Rattle.refusal_objects.specs.Objects.{named, refused_line}
+use Rattle.serve.specs.JsonMembers.Members.{next_member}
+use Rattle.serve.specs.JsonMembers.declared.spelling.Spelling.{Spelling}
+use Rattle.serve.specs.JsonMembers.declared.spelling.Spelling.TheVariants.{Lines, Members}
+use Rattle.serve.specs.RefusalObjects.Objects.{named, refused_line}
 use Rattle.marlowe_commands.specs.declared.face.Face.{Face}
 use Rattle.marlowe_commands.specs.declared.face.Face.TheVariants.{Plain, Explained, Json}
 use Rattle.marlowe_commands.specs.declared.printed.Printed.{Printed}

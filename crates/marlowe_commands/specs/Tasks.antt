@@ -1,31 +1,31 @@
 -- What each command says.
 use Rattle.std.specs.Prelude.{◌≡◌, ◌⊎◌, ◌≤◌, ◌&&◌, ◌||◌, ℕ, Bool, true, false, not, if◌then◌else◌, List, [], Option, Some, None, Result, Ok, Err, codes}
 use Rattle.clap.specs.Words.{Row, Text, one_of}
-use Rattle.json_read_names.specs.declared.fault.JsonFault.{JsonFault}
-use Rattle.marlowe_refusals.specs.declared.fault.Fault.{Fault}
-use Rattle.marlowe_refusals.specs.declared.fault.Fault.TheVariants as fault
-use Rattle.marlowe_refusals.specs.declared.fault.RunFault.{RunFault}
-use Rattle.marlowe_refusals.specs.declared.table_fault.TableFault.{TableFault}
-use Rattle.marlowe_refusals.specs.declared.trace_fault.TraceFault.{TraceFault}
-use Rattle.marlowe_refusals.specs.Refusals.{json_fault_name, refusal_text}
-use Rattle.refusal_objects.specs.Objects.{fault_members, fault_status, named}
-use Rattle.setup_refusals.specs.SetupRefusals.{setup_members}
-use Rattle.line_objects.specs.Objects.{lines_object}
+use Rattle.marlowe_play.specs.JsonReadNames.declared.fault.JsonFault.{JsonFault}
+use Rattle.marlowe_play.specs.MarloweRefusals.declared.fault.Fault.{Fault}
+use Rattle.marlowe_play.specs.MarloweRefusals.declared.fault.Fault.TheVariants as fault
+use Rattle.marlowe_play.specs.MarloweRefusals.declared.fault.RunFault.{RunFault}
+use Rattle.marlowe_play.specs.MarloweRefusals.declared.table_fault.TableFault.{TableFault}
+use Rattle.marlowe_play.specs.MarloweRefusals.declared.trace_fault.TraceFault.{TraceFault}
+use Rattle.marlowe_play.specs.MarloweRefusals.Refusals.{json_fault_name, refusal_text}
+use Rattle.serve.specs.RefusalObjects.Objects.{fault_members, fault_status, named}
+use Rattle.marlowe_play.specs.SetupRefusals.SetupRefusals.{setup_members}
+use Rattle.serve.specs.LineObjects.Objects.{lines_object}
 use Rattle.big_texts.specs.Lines.{big_as_text}
 use Rattle.marlowe_run.specs.declared.readable.Readable.{Readable}
-use Rattle.marlowe_trace.specs.Traced.{Told}
-use Rattle.marlowe_next.specs.declared.asked.Asked.{Asked}
-use Rattle.marlowe_next.specs.Answer.{IsAnswer}
-use Rattle.marlowe_next.specs.Question.{Reached, answered}
-use Rattle.marlowe_analyse.specs.declared.analysed.Telling.{Telling}
-use Rattle.marlowe_analyse.specs.Printed.{TellsSo, is_read}
-use Rattle.json_read_names.specs.Parts.{Reading}
-use Rattle.plans.specs.declared.scenario.Scenario.{Scenario}
+use Rattle.serve.specs.MarloweTrace.Traced.{Told}
+use Rattle.serve.specs.MarloweNext.declared.asked.Asked.{Asked}
+use Rattle.serve.specs.MarloweNext.Answer.{IsAnswer}
+use Rattle.serve.specs.MarloweNext.Question.{Reached, answered}
+use Rattle.serve.specs.MarloweAnalyse.declared.analysed.Telling.{Telling}
+use Rattle.serve.specs.MarloweAnalyse.Printed.{TellsSo, is_read}
+use Rattle.marlowe_play.specs.JsonReadNames.Parts.{Reading}
+use Rattle.marlowe_play.specs.Plans.declared.scenario.Scenario.{Scenario}
 use Rattle.marlowe_play.specs.Faults.{play_refusal_text}
 use Rattle.marlowe_play.specs.Played.{IsAnswered, Wanted}
 use Rattle.marlowe_play.specs.declared.fault.PlayFault.{PlayFault}
 use Rattle.marlowe_play.specs.declared.fault.PlayFault.TheVariants as playing
-use Rattle.refusal_reasons.specs.declared.source.Over.{Over}
+use Rattle.serve.specs.RefusalReasons.declared.source.Over.{Over}
 use Rattle.marlowe_cli.specs.declared.task.Task.{Task}
 use Rattle.marlowe_cli.specs.declared.task.Task.TheVariants.{Run, Trace, Next, Table, Analyse, Play, Serve}
 use Rattle.marlowe_cli.specs.Asked.{IsDepth, IsFlag}

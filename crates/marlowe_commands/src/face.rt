@@ -3,7 +3,7 @@ ghost use Rattle.std.specs.Prelude.{◌≡◌};
 ghost use Rattle.marlowe_commands.specs.Streams.{spelling_of};
 ghost use Rattle.marlowe_commands.specs.Tasks.{face_by};
 
-use refusal_reasons::Spelling;
+use serve::Spelling;
 
 /// How a command shows what it says.
 #[derive(Clone, Copy, Debug, PartialEq, Eq)]

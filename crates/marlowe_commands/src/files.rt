@@ -8,13 +8,12 @@ use crate::printed::Printed;
 use crate::said::{Refusal, Said};
 use crate::stops::put;
 use crate::texts::Texts;
-use collections::Memory;
-use marlowe_io::LoadFault;
-use refusal_reasons::{Source, Spelling, table_reasons};
+use marlowe_play::Memory;
 use scenario_files::{
     FileName, FilesFault, files_members, files_refusal, files_status, first_unread, path_beside,
     with_files,
 };
+use serve::{LoadFault, Source, Spelling, table_reasons};
 use std::alloc::{AllocError, Global};
 
 /// What the files of a scenario hold.

@@ -2,19 +2,16 @@
 ghost use Rattle.std.specs.Prelude.{◌≡◌, Ok, Err, IfOk, option_map};
 ghost use Rattle.std.specs.Thread.{IsSync};
 ghost use Rattle.json_tree.specs.View.{view};
-ghost use Rattle.requests.specs.Ids.{SpellsId};
+ghost use Rattle.serve.specs.Requests.Ids.{SpellsId};
 ghost use Rattle.serve.specs.Playing.{answer_seen};
 ghost use Rattle.marlowe_commands.specs.Serving.{TellsAt, TellsOfText, TellsPlay};
 ghost use Rattle.marlowe_commands.specs.Tasks.{play_members};
 
 use crate::tasks::play_members;
-use collections::Memory;
-use json_read_names::JsonFault;
 use json_tree::{Json, JsonValue};
-use marlowe_play::{Asked, Face, NoWatch, PlayFault, Played, play_asked};
+use marlowe_play::{Asked, Face, JsonFault, Memory, NoWatch, PlayFault, Played, play_asked};
 use marlowe_run::Readable;
-use requests::value_of;
-use serve::{PlayAnswer, Player};
+use serve::{PlayAnswer, Player, value_of};
 use std::alloc::{AllocError, Global};
 use std::sync::Wait;
 use std::thread::Threads;

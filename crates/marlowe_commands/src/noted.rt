@@ -7,8 +7,7 @@ ghost use Rattle.marlowe_commands.specs.Streams.{AreNotes, streams_of, with_note
 use crate::face::Face;
 use crate::printed::Printed;
 use crate::said::put_if;
-use json_forms::{Numbers, ScenarioSort, Sort};
-use refusal_reasons::{Source, Sources};
+use serve::{Numbers, ScenarioSort, Sort, Source, Sources};
 use std::alloc::Global;
 use unread_notes::notes_on;
 

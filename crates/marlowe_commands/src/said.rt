@@ -1,15 +1,13 @@
 //! What a command says, and how it is shown.
 ghost use Rattle.std.specs.Prelude.{◌≡◌, ◌⊎◌, [], ◌∷◌, ◌++◌, IfOk, OnOk};
-ghost use Rattle.refusal_objects.specs.Objects.{refused_line};
+ghost use Rattle.serve.specs.RefusalObjects.Objects.{refused_line};
 ghost use Rattle.marlowe_commands.specs.Streams.{for_people, for_tools, refusal_of, refused_shown, refuses, saying_of, shown, streams_of, unreadable};
 ghost use Rattle.marlowe_commands.specs.Tasks.{refusal_by};
 
 use crate::face::Face;
 use crate::printed::Printed;
-use collections::Memory;
-use json_members::put_next;
-use marlowe_refusals::{Fault, refusal};
-use refusal_objects::{members, named_members, refused_line, status};
+use marlowe_play::{Fault, Memory, refusal};
+use serve::{members, named_members, put_next, refused_line, status};
 use std::alloc::Global;
 
 // The status for tools of a text that isn't read.

@@ -6,11 +6,10 @@ ghost use Rattle.serve.specs.Streams.{IsServed, IsServedSoFar};
 ghost use Rattle.marlowe_commands.specs.Serving.{TellsPlay};
 
 use crate::in_turn::InTurn;
-use collections::Memory;
-use definitions::Definitions;
-use marlowe_io::{Sink, Source};
+use marlowe_io::Source;
+use marlowe_play::Memory;
 use marlowe_run::Readable;
-use serve::{Ended, answer_with, serve_with};
+use serve::{Definitions, Ended, Sink, answer_with, serve_with};
 use std::sync::Wait;
 use std::thread::Threads;
 

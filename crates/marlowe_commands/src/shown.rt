@@ -3,26 +3,23 @@
 ghost use Rattle.std.specs.Prelude.{◌≡◌, ◌⊎◌, [], Some, IfOk, map, option_map};
 ghost use Rattle.marlowe_run.specs.Run.{run_within};
 ghost use Rattle.marlowe_run.specs.TableText.{table_text_within};
-ghost use Rattle.json_read_names.specs.ReadsText.{of_text_within};
-ghost use Rattle.json_read_scenarios.specs.ReadsScenario as reads;
+ghost use Rattle.marlowe_play.specs.JsonReadNames.ReadsText.{of_text_within};
+ghost use Rattle.marlowe_play.specs.JsonReadScenarios.ReadsScenario as reads;
 ghost use Rattle.marlowe_play.specs.Played.{wanted};
-ghost use Rattle.marlowe_trace.specs.Traced.{trace_text};
-ghost use Rattle.marlowe_next.specs.Question.{reached};
-ghost use Rattle.refusal_reasons.specs.Reasons.{Tells, TellsOfTable, TellsScenario};
-ghost use Rattle.refusal_reasons.specs.declared.source.Behind.TheVariants as behind;
+ghost use Rattle.serve.specs.MarloweTrace.Traced.{trace_text};
+ghost use Rattle.serve.specs.MarloweNext.Question.{reached};
+ghost use Rattle.serve.specs.RefusalReasons.Reasons.{Tells, TellsOfTable, TellsScenario};
+ghost use Rattle.serve.specs.RefusalReasons.declared.source.Behind.TheVariants as behind;
 ghost use Rattle.marlowe_commands.specs.Streams.{IsShown, spelling_of, streams_of};
 ghost use Rattle.marlowe_commands.specs.Tasks.{SaysAnalysis, SaysNext, SaysPlay, over_of, run_said, table_said, trace_said};
 
 use crate::face::Face;
 use crate::printed::Printed;
 use crate::tasks::{analysis_said, next_said, play_said, run_said, table_said, trace_said};
-use collections::Memory;
-use marlowe_analyse::Telling;
-use marlowe_play::Watch;
+use marlowe_play::{Memory, Watch};
 use marlowe_run::Readable;
-use refusal_reasons::{
-    Behind, Over, Source, Sources, reasons, scenario_reasons, table_reasons, text_if,
-};
+use refusal_reasons::reasons;
+use serve::{Behind, Over, Source, Sources, Telling, scenario_reasons, table_reasons, text_if};
 use std::alloc::Global;
 use std::sync::Wait;
 use std::thread::Threads;
@@ -83,7 +80,7 @@ pub fn trace_shown(
     contract: Source<'_>,
     state: Option<Source<'_>>,
     transactions: Sources<'_>,
-    asked: marlowe_trace::Asked,
+    asked: serve::Asked,
     big: bool,
     face: Face,
 ) -> Result<Printed, Memory>

@@ -6,8 +6,8 @@ use crate::face::Face;
 use crate::printed::Printed;
 use crate::said::Said;
 use crate::texts::Texts;
-use collections::Memory;
-use marlowe_io::LoadFault;
+use marlowe_play::Memory;
+use serve::LoadFault;
 use std::alloc::{AllocError, Global};
 
 /// Why a task has no text to be about.

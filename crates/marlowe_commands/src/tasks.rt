@@ -2,10 +2,10 @@
 ghost use Rattle.std.specs.Prelude.{◌≡◌, ◌⊎◌, [], Ok, IfOk, map, option_map};
 ghost use Rattle.marlowe_run.specs.Run.{run_within};
 ghost use Rattle.marlowe_run.specs.TableText.{table_text_within};
-ghost use Rattle.marlowe_trace.specs.Traced.{trace_text};
-ghost use Rattle.marlowe_next.specs.Question.{reached};
-ghost use Rattle.json_read_names.specs.ReadsText.{of_text_within};
-ghost use Rattle.json_read_scenarios.specs.ReadsScenario as reads;
+ghost use Rattle.serve.specs.MarloweTrace.Traced.{trace_text};
+ghost use Rattle.serve.specs.MarloweNext.Question.{reached};
+ghost use Rattle.marlowe_play.specs.JsonReadNames.ReadsText.{of_text_within};
+ghost use Rattle.marlowe_play.specs.JsonReadScenarios.ReadsScenario as reads;
 ghost use Rattle.marlowe_play.specs.Played.{wanted};
 ghost use Rattle.marlowe_commands.specs.Streams.{refusal_of, refuses, saying_of, says};
 ghost use Rattle.marlowe_commands.specs.Tasks.{SaysAnalysis, SaysNext, SaysPlay, analysis_status, outcomes, play_members, play_refusal, play_status, run_said, table_answer, table_said, trace_said, well_status};
@@ -13,16 +13,15 @@ ghost use Rattle.marlowe_commands.specs.Tasks.{SaysAnalysis, SaysNext, SaysPlay,
 use crate::face::Face;
 use crate::said::{Refusal, Said};
 use big_texts::big_as_text;
-use collections::Memory;
-use line_objects::lines_object;
-use marlowe_analyse::{Analysed, Telling, analyse_text};
-use marlowe_next::next;
-use marlowe_play::{PlayFault, Played, Watch, play_asked, play_refusal};
-use marlowe_refusals::{Fault, RunFault, TableFault, TraceFault, json_fault_name};
-use marlowe_run::{Readable, run_within, table_text_within};
-use marlowe_trace::{Traced, trace};
-use refusal_objects::named_members;
-use setup_refusals::setup_members;
+use marlowe_play::{
+    Fault, Memory, PlayFault, Played, RunFault, TableFault, TraceFault, Watch, json_fault_name,
+    play_asked, play_refusal, setup_members,
+};
+use marlowe_run::Readable;
+use serve::{
+    Analysed, Telling, Traced, analyse_text, lines_object, named_members, next, run_within,
+    table_text_within, trace,
+};
 use std::alloc::{AllocError, Global};
 use std::sync::Wait;
 use std::thread::Threads;
@@ -63,7 +62,7 @@ pub fn trace_said(
     contract: &[u8],
     state: Option<&[u8]>,
     transactions: &[Vec<u8>],
-    asked: marlowe_trace::Asked,
+    asked: serve::Asked,
     big: bool,
 ) -> Result<Said, Memory>
     ensures { IfOk result (λ said. saying_of said ≡ trace_said big

@@ -1,5 +1,5 @@
 //! What paths hold.
-use marlowe_io::LoadFault;
+use serve::LoadFault;
 use std::alloc::Global;
 
 /// Where the paths of a command line lead.

@@ -12,13 +12,11 @@ use crate::printed::Printed;
 use crate::shown::{analysis_shown, next_shown, play_shown, run_shown, table_shown, trace_shown};
 use crate::stops::{Stop, text_if, text_of, texts_of, unreadable};
 use crate::texts::Texts;
-use collections::Memory;
-use marlowe_analyse::Telling;
 use marlowe_cli::{AnalyseTask, NextTask, PlayTask, RunTask, TableTask, TraceTask};
-use marlowe_play::Watch;
+use marlowe_play::{Memory, Watch};
 use marlowe_run::Readable;
-use refusal_reasons::{Source, Sources};
 use scenario_files::{FileName, files_of};
+use serve::{Source, Sources, Telling};
 use std::alloc::Global;
 use std::sync::Wait;
 use std::thread::Threads;
@@ -144,7 +142,7 @@ fn traced(
     contract: Source<'_>,
     state: Option<Source<'_>>,
     transactions: Sources<'_>,
-    asked: marlowe_trace::Asked,
+    asked: serve::Asked,
     big: bool,
     face: Face,
 ) -> Result<Printed, Memory>
@@ -169,7 +167,7 @@ pub fn trace_told<'a, T: Texts>(
         depth: task.depth,
         text_numbers: task.text_numbers,
     };
-    let asked = marlowe_trace::Asked {
+    let asked = serve::Asked {
         readable,
         last: task.last,
     };

@@ -4,16 +4,16 @@ use Rattle.contract.specs.declared.input.Input.{Input}
 use Rattle.contract.specs.declared.interval.Interval.{Interval}
 use Rattle.contract.specs.declared.transaction.Transaction.{Transaction}
 use Rattle.contract.specs.Tree.{ContractTree, contract_tree}
-use Rattle.states.specs.States.{StateMaps}
-use Rattle.semantics.specs.Walk.{Standing, standing, answer_of}
-use Rattle.semantics.specs.Computed.{computed}
-use Rattle.semantics.specs.Transaction.{trimmed}
-use Rattle.analysis_spec.specs.declared.path.PathStep.{PathStep}
-use Rattle.trace.specs.declared.sequence.Left.{Left}
+use Rattle.contract.specs.States.States.{StateMaps}
+use Rattle.marlowe_next.specs.Semantics.Walk.{Standing, standing, answer_of}
+use Rattle.marlowe_next.specs.Semantics.Computed.{computed}
+use Rattle.marlowe_next.specs.Semantics.Transaction.{trimmed}
+use Rattle.marlowe_next.specs.AnalysisSpec.declared.path.PathStep.{PathStep}
+use Rattle.marlowe_next.specs.Trace.declared.sequence.Left.{Left}
 use Rattle.explain_transactions.specs.declared.explanation.Explanation.{Explanation}
 use Rattle.explain_transactions.specs.declared.explanation.Explanation.TheVariants as why
 use Rattle.explain_transactions.specs.Explained.{Explains}
-use Rattle.marlowe_run.specs.Run.{within_127}
+use Rattle.marlowe_next.specs.MarloweRun.Run.{within_127}
 use Rattle.marlowe_next.specs.declared.asked.Asked.{Asked}
 use Rattle.marlowe_next.specs.Answer.{IsAnswer}
 use Rattle.json_members.specs.declared.spelling.Spelling.{Spelling}

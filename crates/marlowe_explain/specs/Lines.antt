@@ -3,16 +3,16 @@ use Rattle.std.specs.Prelude.{ℕ, ℤ, ◌==◌, Bool, true, List, [], ◌∷�
 use Rattle.std.specs.Fmt.{signed_decimal}
 use Rattle.serde_json.specs.Data.{string}
 use Rattle.serde_json.specs.Written.{compact_text}
-use Rattle.names.specs.declared.party.Party.{Party}
-use Rattle.names.specs.declared.token.Token.{Token}
+use Rattle.contract.specs.Names.declared.party.Party.{Party}
+use Rattle.contract.specs.Names.declared.token.Token.{Token}
 use Rattle.contract.specs.declared.input.Input.{Input}
 use Rattle.contract.specs.declared.input.Input.TheVariants.{Deposit, Choice, Notify}
 use Rattle.contract.specs.declared.interval.Interval.{Interval}
 use Rattle.contract.specs.Tree.{ContractTree}
-use Rattle.analysis_spec.specs.declared.path.PathStep.{PathStep}
-use Rattle.places.specs.Places.{keys_of}
-use Rattle.places.specs.Texts.{place_text, token_text}
-use Rattle.next_lines.specs.Lines.{party_text, money_text}
+use Rattle.marlowe_next.specs.AnalysisSpec.declared.path.PathStep.{PathStep}
+use Rattle.marlowe_next.specs.Places.Places.{keys_of}
+use Rattle.marlowe_next.specs.Places.Texts.{place_text, token_text}
+use Rattle.marlowe_next.specs.NextLines.Lines.{party_text, money_text}
 
 -- a place of a contract, in the spelling of an analysis
 abbrev pub place_of : ContractTree → List PathStep → List ℕ

@@ -1,14 +1,14 @@
 -- The members of a JSON object that tell tools why a transaction is refused.
 use Rattle.std.specs.Prelude.{ℕ, ℤ, List, ◌++◌, ◌-◌, length, take, codes}
 use Rattle.serde_json.specs.Data.{string}
-use Rattle.names.specs.declared.party.Party.{Party}
-use Rattle.names.specs.declared.token.Token.{Token}
+use Rattle.contract.specs.Names.declared.party.Party.{Party}
+use Rattle.contract.specs.Names.declared.token.Token.{Token}
 use Rattle.contract.specs.Tree.{ContractTree}
-use Rattle.analysis_spec.specs.declared.path.PathStep.{PathStep}
-use Rattle.json_write_contracts.specs.WrittenNames.{number_json, party_json, token_json}
+use Rattle.marlowe_next.specs.AnalysisSpec.declared.path.PathStep.{PathStep}
+use Rattle.marlowe_next.specs.JsonWriteContracts.WrittenNames.{number_json, party_json, token_json}
 use Rattle.json_members.specs.Members.{first_member, next_member, next_text, count_json}
-use Rattle.places.specs.Places.{keys_of}
-use Rattle.places.specs.Texts.{place_json}
+use Rattle.marlowe_next.specs.Places.Places.{keys_of}
+use Rattle.marlowe_next.specs.Places.Texts.{place_json}
 
 -- why, in one word
 abbrev pub reason_member : List ℕ → List ℕ

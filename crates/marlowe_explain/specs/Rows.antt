@@ -1,11 +1,11 @@
 -- Worked rows of the lines and of the members, computed on the definitions.
 use Rattle.std.specs.Prelude.{◌≡◌, pos, true, [], ◌∷◌, codes}
 use Rattle.contract.specs.Tree.{ContractTree, close, when, notify, true_obs, no_cases, case_then}
-use Rattle.analysis_spec.specs.declared.path.PathStep.TheVariants.{Case}
-use Rattle.names.specs.Equal.{ada}
+use Rattle.marlowe_next.specs.AnalysisSpec.declared.path.PathStep.TheVariants.{Case}
+use Rattle.contract.specs.Names.Equal.{ada}
 use Rattle.contract.specs.declared.input.Input.TheVariants.{Deposit, Choice, Notify}
 use Rattle.contract.specs.declared.interval.Interval.{Interval}
-use Rattle.next_lines.specs.Rows.{party_a, party_b, release}
+use Rattle.marlowe_next.specs.NextLines.Rows.{party_a, party_b, release}
 use Rattle.marlowe_explain.specs.Members.{invalid_members, past_members, ambiguous_members, value_members, sum_members, unmatched_members, useless_members}
 use Rattle.marlowe_explain.specs.Lines.{input_text, indented, invalid_line, past_line, ambiguous_line, value_line, sum_line, unmatched_lines, useless_lines}
 

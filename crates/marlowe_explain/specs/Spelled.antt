@@ -1,11 +1,11 @@
 -- What is told of each fault, in either spelling.
 use Rattle.std.specs.Prelude.{ℕ, ℤ, Bool, true, false, List}
-use Rattle.names.specs.declared.party.Party.{Party}
-use Rattle.names.specs.declared.token.Token.{Token}
+use Rattle.contract.specs.Names.declared.party.Party.{Party}
+use Rattle.contract.specs.Names.declared.token.Token.{Token}
 use Rattle.contract.specs.declared.input.Input.{Input}
 use Rattle.contract.specs.declared.interval.Interval.{Interval}
 use Rattle.contract.specs.Tree.{ContractTree}
-use Rattle.analysis_spec.specs.declared.path.PathStep.{PathStep}
+use Rattle.marlowe_next.specs.AnalysisSpec.declared.path.PathStep.{PathStep}
 use Rattle.json_members.specs.declared.spelling.Spelling.{Spelling}
 use Rattle.json_members.specs.declared.spelling.Spelling.TheVariants as spellings
 use Rattle.marlowe_explain.specs.Lines.{place_of, invalid_line, past_line, ambiguous_line, value_line, sum_line, unmatched_lines, useless_lines}

@@ -9,12 +9,9 @@ use crate::members::{
     ambiguous_members, invalid_members, past_members, sum_members, value_members,
 };
 use crate::words::line_at;
-use analysis_spec::PathStep;
-use collections::Memory;
-use contract::{Contract, Interval, Party, Token};
+use contract::{Contract, Interval, Memory, Party, Token};
 use json_members::Spelling;
-use json_write_contracts::term_text;
-use places::token_text;
+use marlowe_next::{PathStep, term_text, token_text};
 use std::alloc::Global;
 
 /// The interval ends before it begins.

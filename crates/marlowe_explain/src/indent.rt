@@ -3,7 +3,7 @@ ghost use Rattle.std.specs.Prelude.{◌≡◌, ◌++◌, ◌∷◌, [], true, On
 ghost use Rattle.marlowe_explain.specs.Lines.{indented};
 
 use crate::words::put_bytes;
-use collections::Memory;
+use contract::Memory;
 
 /// Puts each line of a text behind four blanks, and all behind another text.
 pub(crate) fn put_indented(out: &mut Vec<u8>, text: &[u8]) -> Result<(), Memory>

@@ -13,4 +13,10 @@ mod standing;
 mod words;
 
 pub use laws::{worked_explanation_lines, worked_explanation_members};
+pub use marlowe_next::{
+    Asked, Fault, JsonFault, Left, ReadFault, Readable, RunFault, TableFault, TraceFault, after,
+    beside_dropped, contract_from_json, next, next_after, outcome_text, printed_table,
+    read_transactions, state_from_json, state_with_texts_from_json, transaction_from_json,
+    what_is_read_within_can_be_written,
+};
 pub use said::{explained, explained_behind};

@@ -1,19 +1,16 @@
 //! Members of a JSON object for tools.
 ghost use Rattle.std.specs.Prelude.{◌≡◌, ◌++◌, ◌-◌, codes, length, take, IfOk, OnOk, OnErr};
 ghost use Rattle.contract.specs.Tree.{contract_tree};
-ghost use Rattle.json_write_contracts.specs.Tokens.{Keeps, Puts};
-ghost use Rattle.json_write_contracts.specs.WrittenNames.{party_json, token_json};
+ghost use Rattle.marlowe_next.specs.JsonWriteContracts.Tokens.{Keeps, Puts};
+ghost use Rattle.marlowe_next.specs.JsonWriteContracts.WrittenNames.{party_json, token_json};
 ghost use Rattle.json_members.specs.Members.{next_member};
-ghost use Rattle.places.specs.Texts.{place_json};
+ghost use Rattle.marlowe_next.specs.Places.Texts.{place_json};
 ghost use Rattle.marlowe_explain.specs.Members as spec;
 
-use analysis_spec::PathStep;
-use collections::Memory;
-use contract::{Contract, Party, Token};
+use contract::{Contract, Memory, Party, Token};
 use json::Writer;
 use json_members::{Count, put_first, put_next, put_next_text};
-use json_write_contracts::Term;
-use places::{Key, keys_of, put_place_json};
+use marlowe_next::{Key, PathStep, Term, keys_of, put_place_json};
 use std::alloc::Global;
 
 /// The interval ends before it begins.

@@ -2,11 +2,10 @@
 ghost use Rattle.std.specs.Prelude.{◌≡◌, ◌++◌, IfOk};
 ghost use Rattle.marlowe_explain.specs.Explained.{behind, left_behind};
 
-use analysis_spec::PathStep;
-use collections::{Items, Memory};
+use contract::{Items, Memory};
 use explain_transactions::Explanation;
+use marlowe_next::{Left, PathStep};
 use std::alloc::Global;
-use trace::Left;
 
 /// An explanation of the part at the end of a path, with its places behind the path.
 pub(crate) fn behind<'c>(

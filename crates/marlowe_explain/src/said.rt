@@ -1,21 +1,18 @@
 //! Explanations as they are written.
 ghost use Rattle.std.specs.Prelude.{◌≡◌, [], IfOk, option_map};
 ghost use Rattle.contract.specs.Tree.{contract_tree};
-ghost use Rattle.semantics.specs.Transaction.{trimmed};
-ghost use Rattle.semantics.specs.Walk.{standing};
+ghost use Rattle.marlowe_next.specs.Semantics.Transaction.{trimmed};
+ghost use Rattle.marlowe_next.specs.Semantics.Walk.{standing};
 ghost use Rattle.marlowe_explain.specs.Explained.{Says, TellsIfRefused, TellsUnmatched, TellsUseless, behind};
 
 use crate::faults::{ambiguous_told, invalid_told, past_told, sum_told, value_told};
 use crate::paths::behind;
 use crate::standing::{next_text, unmatched_told, useless_told};
-use analysis_spec::PathStep;
-use collections::Memory;
-use contract::{Contract, Input, Interval, State, Transaction};
+use contract::{Contract, Input, Interval, Memory, State, Transaction};
 use explain_transactions::{Explanation, explain};
 use json_members::Spelling;
-use marlowe_run::beside_dropped;
+use marlowe_next::{Left, PathStep, beside_dropped};
 use std::alloc::{AllocError, Global};
-use trace::Left;
 
 /// Why a transaction on a contract and a state is refused: what the first fault is and where, as lines for people or members for
 /// tools. None where the transaction is accepted.

@@ -9,14 +9,10 @@ ghost use Rattle.marlowe_explain.specs.Explained.{IsNext, asks_over};
 use crate::indent::put_indented;
 use crate::members::{unmatched_members, useless_members};
 use crate::words::{input_text, line_at};
-use analysis_spec::PathStep;
-use collections::Memory;
-use contract::{Contract, Input, Interval};
+use contract::{Contract, Input, Interval, Memory};
 use json_members::Spelling;
-use marlowe_next::{Asked, next_there};
-use marlowe_run::Readable;
+use marlowe_next::{Asked, Left, PathStep, Readable, next_there};
 use std::alloc::{AllocError, Global};
-use trace::Left;
 
 /// What the part of a contract takes that is left, over a fixed interval, as what can be done next is told.
 pub(crate) fn next_text(

@@ -2,13 +2,10 @@
 ghost use Rattle.std.specs.Prelude.{◌≡◌, ◌++◌, IfOk, OnOk, string_bytes};
 ghost use Rattle.contract.specs.Tree.{contract_tree};
 ghost use Rattle.marlowe_explain.specs.Lines.{input_text, place_of};
-ghost use Rattle.next_lines.specs.Lines.{money_text};
+ghost use Rattle.marlowe_next.specs.NextLines.Lines.{money_text};
 
-use analysis_spec::PathStep;
-use collections::Memory;
-use contract::{Contract, Input, Token};
-use json_write_contracts::term_text;
-use places::{keys_of, put_place, token_text};
+use contract::{Contract, Input, Memory, Token};
+use marlowe_next::{PathStep, keys_of, put_place, term_text, token_text};
 use std::alloc::Global;
 
 /// Puts bytes behind a text.

@@ -1,7 +1,7 @@
 -- What a caller gets for a request.
 use Rattle.std.specs.Prelude.{◌≡◌, ℕ, ℤ, pos, negsuc, Bool, true, false, List, [], ◌++◌, length, drop, nat_le, nat_lt, if◌then◌else◌}
-use Rattle.lines_in.specs.Lines.{longest_line}
-use Rattle.marlowe_run.specs.declared.readable.Readable.{Readable}
+use Rattle.serve.specs.LinesIn.Lines.{longest_line}
+use Rattle.serve.specs.MarloweRun.declared.readable.Readable.{Readable}
 use Rattle.definitions.specs.declared.definition.Definition.{Definition}
 use Rattle.serve.specs.Answers.{IsAnswer, IsTooLongAnswer, Stays}
 

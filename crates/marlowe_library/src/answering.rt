@@ -4,9 +4,7 @@ ghost use Rattle.marlowe_library.specs.Given.{IsAnswered, put_in};
 
 use collections::Memory;
 use definitions::Definitions;
-use lines_in::LONGEST_LINE;
-use marlowe_run::Readable;
-use serve::{answer, answer_too_long};
+use serve::{LONGEST_LINE, Readable, answer, answer_too_long};
 use std::alloc::Global;
 
 // The answer to a request of this number, from 1, which may be too long.

@@ -5,7 +5,7 @@ ghost use Rattle.marlowe_library.specs.Given.{Tells, TellsIn, readable};
 use crate::answering::{answered, put_in};
 use crate::session::Session;
 use definitions::Definitions;
-use marlowe_run::Readable;
+use serve::Readable;
 use std::alloc::Global;
 
 /// Answers a request: the JSON object of a line that `marlowe serve` reads. It writes the answer, a JSON object and a line feed, at the beginning of

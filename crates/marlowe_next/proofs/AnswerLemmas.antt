@@ -3,27 +3,27 @@ use Rattle.std.proofs.Common.{◌≡◌, ◌≢◌, ℕ, suc, ◌+◌, ◌<◌, 
 use Rattle.std.specs.Prelude.{IfOk}
 use Rattle.std.specs.declared.vec.Vec.{Vec}
 use Rattle.std.specs.declared.alloc.Global.{Global}
-use Rattle.collections.specs.Answers.{◌>>=◌, AsideBy}
+use Rattle.contract.specs.Collections.Answers.{◌>>=◌, AsideBy}
 use Rattle.contract.specs.declared.fault.SemFault.{SemFault}
 use Rattle.contract.specs.declared.fault.SemFault.TheVariants as sem
 use Rattle.contract.specs.declared.interval.Interval.{Interval}
 use Rattle.contract.specs.declared.transaction.Transaction.{Transaction}
 use Rattle.contract.specs.Tree.{ContractTree}
-use Rattle.states.specs.States.{StateMaps}
-use Rattle.semantics.specs.Walk.{Standing, standing, answer_of}
+use Rattle.contract.specs.States.States.{StateMaps}
+use Rattle.marlowe_run.specs.Semantics.Walk.{Standing, standing, answer_of}
 use Rattle.next_inputs.specs.Opening.{opening}
 use Rattle.analysis_spec.specs.declared.path.PathStep.{PathStep}
 use Rattle.analysis_spec.specs.Marks.{leads_after}
 use Rattle.analysis_spec.specs.Runs.{walk_from}
 use Rattle.trace.specs.declared.refused.Refused.{Refused}
 use Rattle.trace.specs.Traces.{left_then, left_by}
-use Rattle.json_read_names.specs.declared.fault.JsonFault.{JsonFault}
-use Rattle.json_read_names.specs.Parts.{Reading}
-use Rattle.marlowe_refusals.specs.declared.fault.RunFault.TheVariants as run
-use Rattle.marlowe_refusals.specs.declared.trace_fault.TraceFault.{TraceFault}
-use Rattle.marlowe_refusals.specs.declared.trace_fault.TraceFault.TheVariants as trace
-use Rattle.marlowe_refusals.specs.Faults.{read_as, semantics_fault}
-use Rattle.marlowe_refusals.specs.TraceFaults.{told_as, refused_fault}
+use Rattle.marlowe_run.specs.JsonReadNames.declared.fault.JsonFault.{JsonFault}
+use Rattle.marlowe_run.specs.JsonReadNames.Parts.{Reading}
+use Rattle.marlowe_run.specs.MarloweRefusals.declared.fault.RunFault.TheVariants as run
+use Rattle.marlowe_run.specs.MarloweRefusals.declared.trace_fault.TraceFault.{TraceFault}
+use Rattle.marlowe_run.specs.MarloweRefusals.declared.trace_fault.TraceFault.TheVariants as trace
+use Rattle.marlowe_run.specs.MarloweRefusals.Faults.{read_as, semantics_fault}
+use Rattle.marlowe_run.specs.MarloweRefusals.TraceFaults.{told_as, refused_fault}
 use Rattle.marlowe_next.specs.declared.asked.Asked.{Asked}
 use Rattle.marlowe_next.specs.Question.{Reached, reached_by, interval_at, answered}
 use Rattle.marlowe_next.specs.Answer.{IsAnswer}

@@ -5,19 +5,19 @@ use Rattle.std.specs.Ordering.{int_eq}
 use Rattle.std.proofs.Math.ListN.{get_or}
 use Rattle.std.proofs.lemmas.Bool.Decides.{Decides-int_eq}
 use Rattle.std.proofs.lemmas.Option.{slice_get_read}
-use Rattle.names.specs.declared.party.Party.{Party}
-use Rattle.names.specs.declared.token.Token.{Token}
-use Rattle.names.specs.Equal.{same_party, same_token}
-use Rattle.names.proofs.EqualLaws.{same_party_decides, same_token_decides}
+use Rattle.contract.specs.Names.declared.party.Party.{Party}
+use Rattle.contract.specs.Names.declared.token.Token.{Token}
+use Rattle.contract.specs.Names.Equal.{same_party, same_token}
+use Rattle.contract.proofs.FromNames.EqualLaws.{same_party_decides, same_token_decides}
 use Rattle.contract.specs.declared.fault.SemFault.{SemFault}
 use Rattle.contract.specs.declared.input.Input.{Input}
 use Rattle.contract.specs.declared.input.Input.TheVariants as inputs
 use Rattle.contract.specs.declared.interval.Interval.{Interval}
 use Rattle.contract.specs.Tree.{ValueTree, ObservationTree, ActionTree, deposit, notify, ContractTree}
-use Rattle.states.specs.States.{StateMaps}
-use Rattle.evaluation.specs.Path.{waits_for}
-use Rattle.semantics.specs.Transaction.{trimmed}
-use Rattle.semantics.specs.Applying.{agrees}
+use Rattle.contract.specs.States.States.{StateMaps}
+use Rattle.marlowe_run.specs.Semantics.Evaluation.Path.{waits_for}
+use Rattle.marlowe_run.specs.Semantics.Transaction.{trimmed}
+use Rattle.marlowe_run.specs.Semantics.Applying.{agrees}
 use Rattle.next_inputs.specs.declared.offer.Offer.{Offer}
 use Rattle.next_inputs.specs.declared.offer.Offer.TheVariants as offers
 use Rattle.next_inputs.specs.Behind.{IsRefusedBehind}

@@ -6,9 +6,9 @@ use Rattle.contract.specs.declared.fault.SemFault.{SemFault}
 use Rattle.contract.specs.declared.interval.Interval.{Interval}
 use Rattle.contract.specs.declared.payment.Payment.{Payment}
 use Rattle.contract.specs.Tree.{ContractTree}
-use Rattle.states.specs.States.{StateMaps}
-use Rattle.semantics.specs.Walk.{Standing, Turn}
-use Rattle.semantics.specs.Transaction.{trimmed, begun}
+use Rattle.contract.specs.States.States.{StateMaps}
+use Rattle.marlowe_run.specs.Semantics.Walk.{Standing, Turn}
+use Rattle.marlowe_run.specs.Semantics.Transaction.{trimmed, begun}
 use Rattle.analysis_spec.specs.declared.path.PathStep.{PathStep}
 use Rattle.analysis_spec.specs.Marks.{led, settling}
 use Rattle.trace.specs.declared.warned.Warned.{Warned}

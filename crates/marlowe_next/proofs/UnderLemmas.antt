@@ -5,11 +5,11 @@ use Rattle.std.proofs.lemmas.List.{map-append}
 use Rattle.contract.specs.declared.interval.Interval.{Interval}
 use Rattle.contract.specs.declared.warning.Warning.{Warning}
 use Rattle.contract.specs.Tree.{ContractTree, close, pay, if_obs, when, let_be, assert}
-use Rattle.states.specs.States.{StateMaps}
-use Rattle.evaluation.specs.Evaluation.{eval, visited, holds, looked}
-use Rattle.semantics.specs.Walk.{Turn}
-use Rattle.semantics.specs.Reduction.{binding, asserting}
-use Rattle.semantics.specs.Computed.{pay_step}
+use Rattle.contract.specs.States.States.{StateMaps}
+use Rattle.marlowe_run.specs.Semantics.Evaluation.Evaluation.{eval, visited, holds, looked}
+use Rattle.marlowe_run.specs.Semantics.Walk.{Turn}
+use Rattle.marlowe_run.specs.Semantics.Reduction.{binding, asserting}
+use Rattle.marlowe_run.specs.Semantics.Computed.{pay_step}
 use Rattle.analysis_spec.specs.declared.path.PathStep.{PathStep}
 use Rattle.analysis_spec.specs.declared.path.PathStep.TheVariants.{Then, Else, TimeoutContinuation}
 use Rattle.analysis_spec.specs.Marks.{step_of, led, Mark, mark, settling}

@@ -1,6 +1,6 @@
 -- The worked rows.
 use Rattle.std.proofs.Common.{refl}
-use Rattle.semantics.specs.Computed.{computed, from_start, one_input, applied}
+use Rattle.marlowe_run.specs.Semantics.Computed.{computed, from_start, one_input, applied}
 use Rattle.marlowe_next.specs.Rows.{TimesFollowTheMinimum, LeadsToTheThird, WhatFollowsIsRefused}
 
 pub times_follow_the_minimum : TimesFollowTheMinimum

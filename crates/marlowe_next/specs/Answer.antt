@@ -2,10 +2,10 @@
 use Rattle.std.specs.Prelude.{◌≡◌, ℕ, Bool, true, false, List, [], map, Result, Ok, is_ok}
 use Rattle.contract.specs.declared.interval.Interval.{Interval}
 use Rattle.contract.specs.Tree.{ContractTree}
-use Rattle.evaluation.specs.Path.{waits_for}
-use Rattle.semantics.specs.Walk.{Standing, answer_of}
-use Rattle.semantics.specs.Transaction.{trimmed, begun}
-use Rattle.semantics.specs.Computed.{computed}
+use Rattle.marlowe_run.specs.Semantics.Evaluation.Path.{waits_for}
+use Rattle.marlowe_run.specs.Semantics.Walk.{Standing, answer_of}
+use Rattle.marlowe_run.specs.Semantics.Transaction.{trimmed, begun}
+use Rattle.marlowe_run.specs.Semantics.Computed.{computed}
 use Rattle.next_inputs.specs.declared.offer.Offer.{Offer}
 use Rattle.next_inputs.specs.Offers.{AreOffers}
 use Rattle.next_inputs.specs.Opening.{opening, waits_until}
@@ -13,7 +13,7 @@ use Rattle.analysis_spec.specs.Marks.{led, settling}
 use Rattle.analysis_spec.specs.Promises.{kind_of}
 use Rattle.trace.specs.declared.warned.Warned.{Warned}
 use Rattle.trace.specs.Warned.{warned_at}
-use Rattle.marlowe_refusals.specs.declared.trace_fault.TraceFault.{TraceFault}
+use Rattle.marlowe_run.specs.MarloweRefusals.declared.trace_fault.TraceFault.{TraceFault}
 use Rattle.places.specs.declared.key.Key.{Key}
 use Rattle.places.specs.Places.{path_keys, keys_of}
 use Rattle.places.specs.Texts.{kind_name}

@@ -5,11 +5,11 @@ use Rattle.std.specs.declared.alloc.Global.{Global}
 use Rattle.contract.specs.declared.input.Input.{Input}
 use Rattle.contract.specs.declared.interval.Interval.{Interval}
 use Rattle.contract.specs.Tree.{ActionTree, ContractTree, contract_tree}
-use Rattle.states.specs.States.{StateMaps}
-use Rattle.evaluation.specs.Path.{waits_for}
-use Rattle.semantics.specs.Walk.{Standing, standing, answer_of}
-use Rattle.semantics.specs.Transaction.{trimmed, begun}
-use Rattle.semantics.specs.Computed.{computed}
+use Rattle.contract.specs.States.States.{StateMaps}
+use Rattle.marlowe_run.specs.Semantics.Evaluation.Path.{waits_for}
+use Rattle.marlowe_run.specs.Semantics.Walk.{Standing, standing, answer_of}
+use Rattle.marlowe_run.specs.Semantics.Transaction.{trimmed, begun}
+use Rattle.marlowe_run.specs.Semantics.Computed.{computed}
 use Rattle.next_inputs.specs.declared.offer.Offer.{Offer}
 use Rattle.next_inputs.specs.Offers.{has, AreOffers}
 use Rattle.next_inputs.specs.Taking.{taken_case}
@@ -20,9 +20,9 @@ use Rattle.trace.specs.declared.sequence.Left.{Left}
 use Rattle.trace.specs.declared.settling.Settled.{Settled}
 use Rattle.trace.specs.declared.warned.Warned.{Warned}
 use Rattle.trace.specs.Warned.{warned_at}
-use Rattle.marlowe_refusals.specs.declared.fault.RunFault.TheVariants as run
-use Rattle.marlowe_refusals.specs.declared.trace_fault.TraceFault.{TraceFault}
-use Rattle.marlowe_refusals.specs.declared.trace_fault.TraceFault.TheVariants as trace
+use Rattle.marlowe_run.specs.MarloweRefusals.declared.fault.RunFault.TheVariants as run
+use Rattle.marlowe_run.specs.MarloweRefusals.declared.trace_fault.TraceFault.{TraceFault}
+use Rattle.marlowe_run.specs.MarloweRefusals.declared.trace_fault.TraceFault.TheVariants as trace
 use Rattle.marlowe_next.specs.declared.asked.Asked.{Asked}
 use Rattle.next_lines.specs.declared.told.CaseTold.{CaseTold}
 use Rattle.next_lines.specs.Applicable.{Applicable}

@@ -6,9 +6,9 @@ use Rattle.contract.specs.declared.input.Input.{Input}
 use Rattle.contract.specs.declared.input.Input.TheVariants as inputs
 use Rattle.contract.specs.declared.interval.Interval.{Interval}
 use Rattle.contract.specs.Tree.{ActionTree, deposit, choice, notify, ContractTree}
-use Rattle.states.specs.States.{StateMaps}
-use Rattle.semantics.specs.Walk.{answer_of}
-use Rattle.semantics.specs.Computed.{computed}
+use Rattle.contract.specs.States.States.{StateMaps}
+use Rattle.marlowe_run.specs.Semantics.Walk.{answer_of}
+use Rattle.marlowe_run.specs.Semantics.Computed.{computed}
 use Rattle.next_inputs.specs.declared.offer.Offer.{Offer}
 use Rattle.next_inputs.specs.declared.offer.Offer.TheVariants as offers
 use Rattle.next_lines.specs.Applicable.{Applicable, deposits, chooses, notifies, deposit_leaves, notify_leaves}

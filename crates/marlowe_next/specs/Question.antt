@@ -4,26 +4,26 @@ use Rattle.std.specs.Borrow.{Bor}
 use Rattle.std.specs.Option.{unwrap_or}
 use Rattle.std.specs.declared.vec.Vec.{Vec}
 use Rattle.std.specs.declared.alloc.Global.{Global}
-use Rattle.collections.specs.Answers.{◌>>=◌}
+use Rattle.contract.specs.Collections.Answers.{◌>>=◌}
 use Rattle.contract.specs.declared.interval.Interval.{Interval}
 use Rattle.contract.specs.declared.transaction.Transaction.{Transaction}
 use Rattle.contract.specs.declared.tree.Contract.{Contract}
 use Rattle.contract.specs.Tree.{ContractTree, contract_tree}
-use Rattle.states.specs.States.{StateMaps}
-use Rattle.json_read_names.specs.ReadsText.{of_text_within}
-use Rattle.json_read_contracts.specs.ReadsContract.{contract}
+use Rattle.contract.specs.States.States.{StateMaps}
+use Rattle.marlowe_run.specs.JsonReadNames.ReadsText.{of_text_within}
+use Rattle.marlowe_run.specs.JsonReadContracts.ReadsContract.{contract}
 use Rattle.json_read_transactions.specs.ReadsTransactions.{transactions_of}
-use Rattle.semantics.specs.Walk.{Standing, standing, answer_of}
+use Rattle.marlowe_run.specs.Semantics.Walk.{Standing, standing, answer_of}
 use Rattle.next_inputs.specs.Opening.{opening}
 use Rattle.analysis_spec.specs.declared.path.PathStep.{PathStep}
 use Rattle.analysis_spec.specs.Marks.{leads_after}
 use Rattle.trace.specs.declared.refused.Refused.{Refused}
 use Rattle.trace.specs.declared.sequence.Left.{Left}
 use Rattle.trace.specs.Traces.{left_by}
-use Rattle.marlowe_refusals.specs.declared.trace_fault.TraceFault.{TraceFault}
-use Rattle.marlowe_refusals.specs.declared.trace_fault.TraceFault.TheVariants as trace
-use Rattle.marlowe_refusals.specs.Faults.{read_as, contract_fault, state_fault, semantics_fault}
-use Rattle.marlowe_refusals.specs.TraceFaults.{told_as, texts_fault, refused_fault}
+use Rattle.marlowe_run.specs.MarloweRefusals.declared.trace_fault.TraceFault.{TraceFault}
+use Rattle.marlowe_run.specs.MarloweRefusals.declared.trace_fault.TraceFault.TheVariants as trace
+use Rattle.marlowe_run.specs.MarloweRefusals.Faults.{read_as, contract_fault, state_fault, semantics_fault}
+use Rattle.marlowe_run.specs.MarloweRefusals.TraceFaults.{told_as, texts_fault, refused_fault}
 use Rattle.marlowe_run.specs.Start.{start_of}
 use Rattle.marlowe_next.specs.declared.asked.Asked.{Asked}
 

@@ -2,12 +2,12 @@
 use Rattle.std.specs.Prelude.{◌≡◌, ℤ, pos, false, [], ◌∷◌, Option, Some, None, Ok, Err}
 use Rattle.contract.specs.declared.fault.SemFault.TheVariants.{NoMatch, Ambiguous}
 use Rattle.contract.specs.Tree.{ContractTree, notify, close, when, no_cases, case_then, true_obs}
-use Rattle.semantics.specs.Rows.{interval, nothing}
-use Rattle.semantics.specs.Walk.{standing}
-use Rattle.evaluation.specs.Path.{waits_for}
+use Rattle.marlowe_run.specs.Semantics.Rows.{interval, nothing}
+use Rattle.marlowe_run.specs.Semantics.Walk.{standing}
+use Rattle.marlowe_run.specs.Semantics.Evaluation.Path.{waits_for}
 use Rattle.next_inputs.specs.declared.offer.Offer.TheVariants as offers
 use Rattle.analysis_spec.specs.declared.path.PathStep.TheVariants.{Case}
-use Rattle.marlowe_refusals.specs.declared.trace_fault.TraceFault.TheVariants.{Refused}
+use Rattle.marlowe_run.specs.MarloweRefusals.declared.trace_fault.TraceFault.TheVariants.{Refused}
 use Rattle.trace.specs.Rows.{first, third, notifies}
 use Rattle.next_lines.specs.Applicable.{notifies as notified}
 use Rattle.marlowe_run.specs.Run.{within_127}

@@ -1,8 +1,8 @@
 //! What can be done next, from text to text.
 ghost use Rattle.std.specs.Prelude.{◌≡◌, ◌≢◌, ◌+◌, ◌<◌, IfOk, Ok};
-ghost use Rattle.collections.specs.Answers.{AsideBy};
+ghost use Rattle.contract.specs.Collections.Answers.{AsideBy};
 ghost use Rattle.contract.specs.Tree.{contract_tree};
-ghost use Rattle.marlowe_refusals.specs.TraceFaults.{refused_fault};
+ghost use Rattle.marlowe_run.specs.MarloweRefusals.TraceFaults.{refused_fault};
 ghost use Rattle.marlowe_next.specs.Question.{answered, reached_at, reached_by, reached_from, reached_given, reached_with, text_given, texts_given};
 ghost use Rattle.marlowe_next.specs.Answer.{IsAnswer};
 ghost use Rattle.marlowe_next.specs.AnswerSupport.{Answers};
@@ -10,10 +10,8 @@ ghost use Rattle.marlowe_next.specs.AnswerSupport.{Answers};
 use crate::asked::{Asked, interval_of};
 use crate::told_here::settled_text;
 use contract::{Contract, SemFault, State, Transaction};
-use contract_json::read_contract_within;
 use json_read_transactions::read_transactions;
-use marlowe_refusals::{RunFault, TraceFault};
-use marlowe_run::{beside_dropped, read_start};
+use marlowe_run::{RunFault, TraceFault, beside_dropped, read_contract_within, read_start};
 use std::alloc::Global;
 use trace::{Left, Refused, settle};
 

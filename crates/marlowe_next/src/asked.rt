@@ -1,6 +1,6 @@
 //! What is asked.
 ghost use Rattle.std.specs.Prelude.{◌≡◌};
-ghost use Rattle.semantics.specs.Transaction.{trimmed};
+ghost use Rattle.marlowe_run.specs.Semantics.Transaction.{trimmed};
 ghost use Rattle.marlowe_next.specs.Question.{interval_of};
 
 use contract::{Interval, State};

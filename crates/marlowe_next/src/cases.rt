@@ -1,15 +1,13 @@
 //! What is told of the cases of a contract that has settled.
 ghost use Rattle.std.specs.Prelude.{◌≡◌, ◌<◌, ◌++◌, length, IfOk, OnOk};
-ghost use Rattle.evaluation.specs.Path.{waits_for};
+ghost use Rattle.marlowe_run.specs.Semantics.Evaluation.Path.{waits_for};
 ghost use Rattle.next_inputs.specs.Offers.{AreOffers};
 ghost use Rattle.next_inputs.specs.Behind.{IsRefusedBehind};
 ghost use Rattle.next_lines.specs.Seen.{seen_cases};
 ghost use Rattle.marlowe_next.specs.AnswerSupport.{seen_if, TakesAt, TellsCase, TellsCases};
 
-use collections::{Memory, TryClone};
-use contract::{Input, Interval, Party, SemFault, State, Token};
-use evaluation::{Parts, Wait};
-use marlowe_run::beside_dropped;
+use contract::{Input, Interval, Memory, Party, SemFault, State, Token, TryClone};
+use marlowe_run::{Parts, Wait, beside_dropped};
 use next_inputs::{Offer, refused_behind};
 use next_lines::{CaseTold, Deposit};
 use std::alloc::Global;

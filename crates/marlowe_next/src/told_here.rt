@@ -1,7 +1,7 @@
 //! What is told of a contract where transactions have led, once it has settled.
 ghost use Rattle.std.specs.Prelude.{◌≡◌, ◌++◌, map, IfOk, OnOk, IfSome};
 ghost use Rattle.contract.specs.Tree.{contract_tree};
-ghost use Rattle.semantics.specs.Walk.{standing};
+ghost use Rattle.marlowe_run.specs.Semantics.Walk.{standing};
 ghost use Rattle.marlowe_next.specs.Answer.{printed, told_of, warning_told};
 ghost use Rattle.marlowe_next.specs.Question.{reached_at};
 ghost use Rattle.next_lines.specs.Seen.{IsMoment, seen, seen_warning};
@@ -10,13 +10,11 @@ ghost use Rattle.marlowe_next.specs.AnswerSupport.{HasSettled, TellsSettled, Are
 use crate::asked::fixed;
 use crate::cases::told_cases;
 use analysis_spec::PathStep;
-use collections::Memory;
-use contract::{Contract, Interval};
-use marlowe_run::beside_dropped;
+use contract::{Contract, Interval, Memory};
+use marlowe_run::{Plain, beside_dropped};
 use next_inputs::{Offer, offers, waits_until};
 use next_lines::{ToldHere, ToldWarning, told_json, told_lines};
 use places::{keys_of, path_keys, warning_name};
-use semantics::Plain;
 use std::alloc::Global;
 use trace::{Left, Settled, Warned};
 

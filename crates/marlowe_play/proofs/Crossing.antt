@@ -4,9 +4,9 @@ use denote.Ref.{NamedLft}
 use denote.Param.Send.{IsSend, recorded_send, struct_send, shr_send}
 use denote.Struct.Declared.{shape}
 use Rattle.parties.proofs.party.Party.TheSendSync as party
-use Rattle.hub.specs.declared.session.Session as session
-use Rattle.hub.specs.contracts.at_hub.SeatAtHub as SeatAtHub
-use Rattle.hub.proofs.Crossing.{seats_are_sent, hubs_are_lent}
+use Rattle.parties.specs.Hub.declared.session.Session as session
+use Rattle.parties.specs.Hub.contracts.at_hub.SeatAtHub as SeatAtHub
+use Rattle.parties.proofs.FromHub.Crossing.{seats_are_sent, hubs_are_lent}
 use Rattle.marlowe_play.specs.contracts.turns.Turn as Turn
 
 module _ (J : RattleType) (S : session.Ghosts J.Denot) where

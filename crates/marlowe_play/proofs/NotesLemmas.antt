@@ -2,18 +2,18 @@
 use Rattle.std.proofs.Common.{◌≡◌, ◌∙◌, ℕ, zero, suc, ◌+◌, ◌<◌, List, [], ◌∷◌, ◌++◌, length, get_or, drop, map, refl, sym, ap, arith}
 use Rattle.std.proofs.lemmas.List.{at_drop_more, length-map}
 use Rattle.std.specs.Prelude.{slice_get, Option, Some, None, ◌-◌}
-use Rattle.ledger.specs.declared.call.Entry.{Entry}
-use Rattle.plans.specs.declared.intent.Intent.{Intent}
-use Rattle.plans.specs.declared.plan.Plan.{Plan}
-use Rattle.plans.specs.declared.scenario.NamedThread.{NamedThread}
-use Rattle.plans.specs.declared.scenario.Scenario.{Scenario}
+use Rattle.play_endings.specs.Ledger.declared.call.Entry.{Entry}
+use Rattle.play_endings.specs.Plans.declared.intent.Intent.{Intent}
+use Rattle.play_endings.specs.Plans.declared.plan.Plan.{Plan}
+use Rattle.play_endings.specs.Plans.declared.scenario.NamedThread.{NamedThread}
+use Rattle.play_endings.specs.Plans.declared.scenario.Scenario.{Scenario}
 use Rattle.parties.specs.declared.left_out.LeftOut.{LeftOut}
-use Rattle.builder_spec.specs.declared.fault.BuildFault.{BuildFault}
-use Rattle.ledger.specs.declared.look.Unspent.{Unspent}
-use Rattle.play_notes.specs.Notes.{notes_of, put_behind}
-use Rattle.step_notes.specs.declared.spelling.Spelling.{Spelling}
-use Rattle.step_notes.specs.declared.spelling.Spelling.TheVariants.{Lines, Objects}
-use Rattle.play_objects.specs.EntryObjects.{entry_objects}
+use Rattle.play_setup.specs.BuilderSpec.declared.fault.BuildFault.{BuildFault}
+use Rattle.play_endings.specs.Ledger.declared.look.Unspent.{Unspent}
+use Rattle.play_endings.specs.PlayNotes.Notes.{notes_of, put_behind}
+use Rattle.play_endings.specs.StepNotes.declared.spelling.Spelling.{Spelling}
+use Rattle.play_endings.specs.StepNotes.declared.spelling.Spelling.TheVariants.{Lines, Objects}
+use Rattle.play_endings.specs.PlayObjects.EntryObjects.{entry_objects}
 use Rattle.play_endings.specs.declared.ending.Ending.{Ending}
 use Rattle.play_endings.specs.declared.ending.Ending.TheVariants.{Done, NotBuilt, NothingToClaim, Refused, GivenUp, PoolFull, RefusedInRound, Pooled, Backward, Stopped}
 use Rattle.play_endings.specs.declared.taken.Taken.{Taken}

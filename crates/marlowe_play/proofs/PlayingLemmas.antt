@@ -7,19 +7,19 @@ use Rattle.std.specs.Prelude.{slice_get, Some, IfOk, Vec}
 use Rattle.std.specs.Global.{Global}
 use Rattle.std.specs.List.{All, AllZip}
 use Rattle.json_read_names.specs.Parts.{Reading}
-use Rattle.plans.specs.declared.plan.Plan.{Plan}
-use Rattle.plans.specs.declared.scenario.NamedThread.{NamedThread}
-use Rattle.plans.specs.declared.scenario.Scenario.{Scenario}
-use Rattle.roles.specs.declared.published.Published.{Published}
-use Rattle.eutxo_types.specs.declared.output.Output.{Output}
-use Rattle.eutxo_types.specs.declared.output_ref.OutputRef.{OutputRef}
-use Rattle.ledger_spec.specs.Legal.{IsLegal}
-use Rattle.ledger_spec.specs.Replay.{Course}
-use Rattle.hub.specs.declared.answer.Answer.{Answer}
-use Rattle.hub.specs.Seats.{SeatRecord, AreHeard, AreNumbered, answered}
+use Rattle.play_endings.specs.Plans.declared.plan.Plan.{Plan}
+use Rattle.play_endings.specs.Plans.declared.scenario.NamedThread.{NamedThread}
+use Rattle.play_endings.specs.Plans.declared.scenario.Scenario.{Scenario}
+use Rattle.play_endings.specs.Roles.declared.published.Published.{Published}
+use Rattle.play_endings.specs.EutxoTypes.declared.output.Output.{Output}
+use Rattle.play_endings.specs.EutxoTypes.declared.output_ref.OutputRef.{OutputRef}
+use Rattle.play_setup.specs.LedgerSpec.Legal.{IsLegal}
+use Rattle.play_setup.specs.LedgerSpec.Replay.{Course}
+use Rattle.parties.specs.Hub.declared.answer.Answer.{Answer}
+use Rattle.parties.specs.Hub.Seats.{SeatRecord, AreHeard, AreNumbered, answered}
 use Rattle.parties.specs.declared.left_out.LeftOut.{LeftOut}
 use Rattle.parties.specs.Plays.{PlayedPlan, AreOfPlan, IsLeftOut, added}
-use Rattle.play_lines.specs.PlayLines.{ThreadLine}
+use Rattle.play_setup.specs.PlayLines.PlayLines.{ThreadLine}
 use Rattle.play_setup.specs.SetUp.{Begun, Begins, IsSetUp, object_of, course, currencies, key_output, plan_on, start_output}
 use Rattle.marlowe_play.specs.Played.{AreLeftOut, IsThreadLine, IsTold, PlaysPlan, TellsAPlay, IsAnswered, Wanted, well_by}
 use Rattle.marlowe_play.specs.PlayedSupport.{AreLines, HasPlayed, HasEnded, WerePlayed}

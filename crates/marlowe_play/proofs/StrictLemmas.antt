@@ -1,8 +1,8 @@
 -- Whether each intent is done, plan by plan.
 use Rattle.std.proofs.Common.{◌≡◌, ◌∙◌, ℕ, ◌+◌, ◌<◌, Bool, true, false, ◌&&◌, List, length, get_or, drop, map, ap}
 use Rattle.std.specs.Prelude.{slice_get}
-use Rattle.ledger.specs.declared.call.Entry.{Entry}
-use Rattle.plans.specs.declared.scenario.Scenario.{Scenario}
+use Rattle.play_endings.specs.Ledger.declared.call.Entry.{Entry}
+use Rattle.play_endings.specs.Plans.declared.scenario.Scenario.{Scenario}
 use Rattle.parties.specs.declared.left_out.LeftOut.{LeftOut}
 use Rattle.play_endings.specs.declared.taken.Taken.{Taken}
 use Rattle.marlowe_play.specs.Strict.{plan_done, plans_done}

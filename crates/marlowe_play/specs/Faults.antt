@@ -3,9 +3,9 @@ use Rattle.std.specs.Prelude.{◌≡◌, ◌≢◌, ℕ, List, ◌++◌, Result,
 use Rattle.json_read_names.specs.declared.fault.JsonFault.{JsonFault}
 use Rattle.json_read_names.specs.declared.fault.JsonFault.TheVariants as json
 use Rattle.json_read_names.specs.Parts.{Reading}
-use Rattle.plans.specs.declared.scenario.Scenario.{Scenario as ScenarioRead}
-use Rattle.marlowe_refusals.specs.Refusals.{json_fault_name}
-use Rattle.setup_refusals.specs.SetupRefusals.{setup_line}
+use Rattle.play_endings.specs.Plans.declared.scenario.Scenario.{Scenario as ScenarioRead}
+use Rattle.play_setup.specs.MarloweRefusals.Refusals.{json_fault_name}
+use Rattle.play_setup.specs.SetupRefusals.SetupRefusals.{setup_line}
 use Rattle.marlowe_play.specs.declared.fault.PlayFault.{PlayFault}
 use Rattle.marlowe_play.specs.declared.fault.PlayFault.TheVariants.{Scenario, Setup, Memory}
 

@@ -1,25 +1,25 @@
 -- What is told of a play, in lines or as objects: behind its entries, and of the intents of its plans.
 use Rattle.std.specs.Prelude.{ℕ, ◌+◌, ◌-◌, List, map, [], ◌∷◌, ◌++◌, length, slice_get, Option, Some, None}
-use Rattle.ledger.specs.declared.call.Entry.{Entry}
-use Rattle.ledger.specs.declared.call.Reply.{Reply}
-use Rattle.ledger.specs.declared.call.Reply.TheVariants as replies
-use Rattle.ledger.specs.declared.look.Unspent.{Unspent}
-use Rattle.plans.specs.declared.intent.Intent.{Intent}
-use Rattle.plans.specs.declared.plan.Plan.{Plan}
-use Rattle.plans.specs.declared.scenario.NamedThread.{NamedThread}
-use Rattle.plans.specs.declared.scenario.Scenario.{Scenario as ScenarioRead}
+use Rattle.play_endings.specs.Ledger.declared.call.Entry.{Entry}
+use Rattle.play_endings.specs.Ledger.declared.call.Reply.{Reply}
+use Rattle.play_endings.specs.Ledger.declared.call.Reply.TheVariants as replies
+use Rattle.play_endings.specs.Ledger.declared.look.Unspent.{Unspent}
+use Rattle.play_endings.specs.Plans.declared.intent.Intent.{Intent}
+use Rattle.play_endings.specs.Plans.declared.plan.Plan.{Plan}
+use Rattle.play_endings.specs.Plans.declared.scenario.NamedThread.{NamedThread}
+use Rattle.play_endings.specs.Plans.declared.scenario.Scenario.{Scenario as ScenarioRead}
 use Rattle.parties.specs.declared.left_out.LeftOut.{LeftOut}
-use Rattle.play_notes.specs.Intents.{is_no_thread, unbuilt_text}
-use Rattle.builder_spec.specs.declared.fault.BuildFault.{BuildFault}
-use Rattle.play_lines.specs.PlayLines.{ThreadLine}
-use Rattle.play_notes.specs.Notes.{notes_of, noted_lines, put_behind}
-use Rattle.play_holdings.specs.declared.holding.Holding.{Holding}
-use Rattle.play_holdings.specs.HoldingLines.{holding_lines}
-use Rattle.step_notes.specs.declared.spelling.Spelling.{Spelling}
-use Rattle.step_notes.specs.declared.spelling.Spelling.TheVariants.{Lines, Objects}
-use Rattle.play_objects.specs.EntryObjects.{entry_objects, noted_objects}
-use Rattle.play_objects.specs.HoldingObjects.{holding_objects}
-use Rattle.play_objects.specs.IntentObjects.{unbuilt_object}
+use Rattle.play_endings.specs.PlayNotes.Intents.{is_no_thread, unbuilt_text}
+use Rattle.play_setup.specs.BuilderSpec.declared.fault.BuildFault.{BuildFault}
+use Rattle.play_setup.specs.PlayLines.PlayLines.{ThreadLine}
+use Rattle.play_endings.specs.PlayNotes.Notes.{notes_of, noted_lines, put_behind}
+use Rattle.play_endings.specs.PlayHoldings.declared.holding.Holding.{Holding}
+use Rattle.play_endings.specs.PlayHoldings.HoldingLines.{holding_lines}
+use Rattle.play_endings.specs.StepNotes.declared.spelling.Spelling.{Spelling}
+use Rattle.play_endings.specs.StepNotes.declared.spelling.Spelling.TheVariants.{Lines, Objects}
+use Rattle.play_endings.specs.PlayObjects.EntryObjects.{entry_objects, noted_objects}
+use Rattle.play_endings.specs.PlayObjects.HoldingObjects.{holding_objects}
+use Rattle.play_endings.specs.PlayObjects.IntentObjects.{unbuilt_object}
 use Rattle.play_endings.specs.declared.ending.LeftIntent.{LeftIntent}
 use Rattle.play_endings.specs.declared.taken.Taken.{Taken}
 use Rattle.play_endings.specs.Endings.{EndedAt, endings, entries_of, taken_in}

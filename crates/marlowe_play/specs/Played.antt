@@ -2,29 +2,29 @@
 use Rattle.std.specs.Prelude.{◌≡◌, ℕ, ◌-◌, Bool, true, false, ◌&&◌, if◌then◌else◌, List, [], ◌∷◌, map, length, slice_get, Option, Some, None, Ok, Err}
 use Rattle.std.specs.List.{All, AllZip}
 use Rattle.json_read_names.specs.Parts.{Reading}
-use Rattle.plans.specs.declared.plan.Plan.{Plan}
-use Rattle.plans.specs.declared.scenario.Scenario.{Scenario as ScenarioRead}
-use Rattle.table.specs.Along.{has_cont}
-use Rattle.table.specs.Flat.{cont_tree, is_close}
-use Rattle.eutxo_types.specs.declared.output_ref.OutputRef.{OutputRef}
-use Rattle.roles.specs.declared.published.Published.{Published}
-use Rattle.ledger.specs.declared.call.Entry.{Entry}
-use Rattle.ledger_spec.specs.declared.step_record.StepRecord.{StepRecord}
-use Rattle.ledger_spec.specs.Legal.{IsLegal}
-use Rattle.ledger_spec.specs.Records.{AreSteps}
-use Rattle.ledger_spec.specs.Replay.{Course, past_of, published, published_at, world}
-use Rattle.hub.specs.Seats.{SeatRecord, AreHeard, answered}
+use Rattle.play_endings.specs.Plans.declared.plan.Plan.{Plan}
+use Rattle.play_endings.specs.Plans.declared.scenario.Scenario.{Scenario as ScenarioRead}
+use Rattle.play_endings.specs.Table.Along.{has_cont}
+use Rattle.play_endings.specs.Table.Flat.{cont_tree, is_close}
+use Rattle.play_endings.specs.EutxoTypes.declared.output_ref.OutputRef.{OutputRef}
+use Rattle.play_endings.specs.Roles.declared.published.Published.{Published}
+use Rattle.play_endings.specs.Ledger.declared.call.Entry.{Entry}
+use Rattle.play_setup.specs.LedgerSpec.declared.step_record.StepRecord.{StepRecord}
+use Rattle.play_setup.specs.LedgerSpec.Legal.{IsLegal}
+use Rattle.play_setup.specs.LedgerSpec.Records.{AreSteps}
+use Rattle.play_setup.specs.LedgerSpec.Replay.{Course, past_of, published, published_at, world}
+use Rattle.parties.specs.Hub.Seats.{SeatRecord, AreHeard, answered}
 use Rattle.parties.specs.declared.left_out.LeftOut.{LeftOut}
 use Rattle.parties.specs.Plays.{PlayedPlan, AreOfPlan, IsLeftOut}
-use Rattle.play_lines.specs.PlayLines.{ThreadLine, played_lines}
-use Rattle.play_holdings.specs.declared.holding.Holding.{Holding}
+use Rattle.play_setup.specs.PlayLines.PlayLines.{ThreadLine, played_lines}
+use Rattle.play_endings.specs.PlayHoldings.declared.holding.Holding.{Holding}
 use Rattle.chain_holdings.specs.After.{AreHoldings, AreWhatThereWas}
 use Rattle.play_setup.specs.SetUp.{Begun, IsSetUp, course, currencies, key_output, plan_on, start_output}
 use Rattle.marlowe_play.specs.Notes.{all_told}
 use Rattle.marlowe_play.specs.Strict.{went_well}
-use Rattle.step_notes.specs.declared.spelling.Spelling.{Spelling}
-use Rattle.step_notes.specs.declared.spelling.Spelling.TheVariants.{Lines}
-use Rattle.step_notes.specs.declared.spelling.Spelling.TheVariants as spelled
+use Rattle.play_endings.specs.StepNotes.declared.spelling.Spelling.{Spelling}
+use Rattle.play_endings.specs.StepNotes.declared.spelling.Spelling.TheVariants.{Lines}
+use Rattle.play_endings.specs.StepNotes.declared.spelling.Spelling.TheVariants as spelled
 use Rattle.marlowe_play.specs.declared.asked.Face.{Face}
 use Rattle.marlowe_play.specs.declared.asked.Face.TheVariants.{Plain, Explained, Objects}
 

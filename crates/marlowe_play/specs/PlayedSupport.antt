@@ -2,16 +2,16 @@
 use Rattle.std.specs.Prelude.{◌≡◌, List, [], ◌∷◌, ◌++◌, map, slice_get, Some, Result, IfOk, Vec}
 use Rattle.std.specs.Global.{Global}
 use Rattle.std.specs.List.{All, AllZip}
-use Rattle.eutxo_types.specs.declared.output_ref.OutputRef.{OutputRef}
-use Rattle.roles.specs.declared.published.Published.{Published}
-use Rattle.ledger_spec.specs.Replay.{Course}
-use Rattle.plans.specs.declared.scenario.NamedThread.{NamedThread}
-use Rattle.plans.specs.declared.scenario.Scenario.{Scenario as ScenarioRead}
-use Rattle.hub.specs.Seats.{SeatRecord, AreNumbered, seat_record}
+use Rattle.play_endings.specs.EutxoTypes.declared.output_ref.OutputRef.{OutputRef}
+use Rattle.play_endings.specs.Roles.declared.published.Published.{Published}
+use Rattle.play_setup.specs.LedgerSpec.Replay.{Course}
+use Rattle.play_endings.specs.Plans.declared.scenario.NamedThread.{NamedThread}
+use Rattle.play_endings.specs.Plans.declared.scenario.Scenario.{Scenario as ScenarioRead}
+use Rattle.parties.specs.Hub.Seats.{SeatRecord, AreNumbered, seat_record}
 use Rattle.parties.specs.declared.left_out.LeftOut.{LeftOut}
 use Rattle.parties.specs.Plays.{PlayedPlan, AreOfPlan, IsLeftOut, added}
 use Rattle.play_setup.specs.SetUp.{Begun, IsSetUp, currencies, plan_on, start_output}
-use Rattle.play_lines.specs.PlayLines.{ThreadLine}
+use Rattle.play_setup.specs.PlayLines.PlayLines.{ThreadLine}
 use Rattle.marlowe_play.specs.Played.{AreLeftOut, IsThreadLine, PlaysPlan}
 
 -- a seat went on by a plan

@@ -1,11 +1,11 @@
 -- Whether all went well.
 use Rattle.std.specs.Prelude.{ℕ, ◌+◌, Bool, true, false, ◌&&◌, ◌||◌, List, [], ◌∷◌, slice_get, Option, Some, None}
 use Rattle.std.specs.Str.{bytes_eq}
-use Rattle.ledger.specs.declared.call.Entry.{Entry}
-use Rattle.plans.specs.declared.plan.Plan.{Plan}
-use Rattle.plans.specs.declared.scenario.Scenario.{Scenario as ScenarioRead}
+use Rattle.play_endings.specs.Ledger.declared.call.Entry.{Entry}
+use Rattle.play_endings.specs.Plans.declared.plan.Plan.{Plan}
+use Rattle.play_endings.specs.Plans.declared.scenario.Scenario.{Scenario as ScenarioRead}
 use Rattle.parties.specs.declared.left_out.LeftOut.{LeftOut}
-use Rattle.play_lines.specs.PlayLines.{ThreadLine}
+use Rattle.play_setup.specs.PlayLines.PlayLines.{ThreadLine}
 use Rattle.play_endings.specs.declared.taken.Taken.{Taken}
 use Rattle.play_endings.specs.Endings.{all_done, taken_in}
 use Rattle.marlowe_play.specs.Notes.{plan_ended}

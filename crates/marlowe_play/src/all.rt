@@ -4,16 +4,13 @@ ghost use Rattle.marlowe_play.specs.Notes as notes;
 ghost use Rattle.marlowe_play.specs.Notes.{lines_by, holdings_by};
 
 use crate::notes::told_of;
-use collections::Memory;
-use ledger::Entry;
 use parties::LeftOut;
-use plans::{NamedThread, Scenario};
-use play_holdings::{Holding, holding_lines};
-use play_lines::ThreadLine;
-use play_notes::noted_lines;
-use play_objects::{holding_objects, noted_objects};
+use play_endings::{
+    Entry, Holding, Memory, NamedThread, Scenario, Spelling, holding_lines, holding_objects,
+    noted_lines, noted_objects,
+};
+use play_setup::ThreadLine;
 use std::alloc::Global;
-use step_notes::Spelling;
 
 fn lines_by(
     alloc: Global,

@@ -1,8 +1,8 @@
 //! What is printed of a play: its history, what became of each thread, and who holds what.
 ghost use Rattle.std.specs.Prelude.{◌≡◌, ◌<◌, ◌-◌, length, map, slice_get, IfOk, List};
 ghost use Rattle.std.specs.List.{All};
-ghost use Rattle.plans.specs.declared.scenario.NamedThread.{NamedThread};
-ghost use Rattle.play_lines.specs.PlayLines.{ThreadLine as Told};
+ghost use Rattle.play_endings.specs.Plans.declared.scenario.NamedThread.{NamedThread};
+ghost use Rattle.play_setup.specs.PlayLines.PlayLines.{ThreadLine as Told};
 ghost use Rattle.play_setup.specs.SetUp.{key_output};
 ghost use Rattle.marlowe_play.specs.Played.{IsThreadLine, IsTold, TellsAll, leaves_close, wanted, well_by};
 ghost use Rattle.marlowe_play.specs.PlayedSupport.{AreLines};
@@ -11,16 +11,10 @@ use crate::all::all_told;
 use crate::asked::{Asked, Face, Played};
 use crate::strict::went_well;
 use chain_holdings::holdings_after;
-use collections::{Memory, Text};
-use eutxo_types::OutputRef;
-use hub::{Chain, StepRecord};
-use parties::LeftOut;
-use plans::{NamedThread, Scenario};
-use play_lines::{ThreadLine, played_lines};
-use play_setup::{Stage, key_outputs};
-use roles::Published;
+use parties::{Chain, LeftOut, StepRecord};
+use play_endings::{Memory, NamedThread, OutputRef, Published, Scenario, Spelling, Text};
+use play_setup::{Stage, ThreadLine, key_outputs, played_lines};
 use std::alloc::Global;
-use step_notes::Spelling;
 
 // All that is told of a play, and who holds what.
 fn told_text(

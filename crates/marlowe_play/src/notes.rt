@@ -5,18 +5,14 @@ ghost use Rattle.play_endings.specs.StepTexts as texts;
 ghost use Rattle.marlowe_play.specs.Notes as notes;
 ghost use Rattle.marlowe_play.specs.Notes.{left_intent, keys_at, offered_at, unbuilt_by, put_at, put_intent, put_left, plan_told, put_plans, marlowe_play, notes_by};
 
-use builder_spec::BuildFault;
-use collections::Memory;
-use ledger::{Entry, Reply, Unspent};
 use parties::LeftOut;
-use plans::{Intent, Plan, Scenario};
 use play_endings::{
-    Ended, LeftIntent, Taken, endings, entries_of, put_endings, put_steps, taken_in,
+    Ended, Entry, Intent, LeftIntent, Memory, Plan, Reply, Scenario, Spelling, Taken, Unspent,
+    endings, entries_of, entry_objects, is_no_thread, notes_of, put_behind, put_endings, put_steps,
+    taken_in, unbuilt_object, unbuilt_text,
 };
-use play_notes::{is_no_thread, notes_of, put_behind, unbuilt_text};
-use play_objects::{entry_objects, unbuilt_object};
+use play_setup::BuildFault;
 use std::alloc::Global;
-use step_notes::Spelling;
 
 // What is told of the plans of a play.
 #[derive(Drop)]

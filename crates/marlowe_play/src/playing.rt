@@ -1,9 +1,9 @@
 //! A scenario, from text to text.
 ghost use Rattle.std.specs.Prelude.{◌≡◌, ◌+◌, false, length, map, IfErr, IfOk};
-ghost use Rattle.hub.specs.Seats.{AreNumbered, answered};
+ghost use Rattle.parties.specs.Hub.Seats.{AreNumbered, answered};
 ghost use Rattle.json_read_names.specs.ReadsText.{of_text, of_text_within};
-ghost use Rattle.json_read_scenarios.specs.Named.{NamesWhatItHas};
-ghost use Rattle.json_read_scenarios.specs.ReadsScenario as reads;
+ghost use Rattle.play_setup.specs.JsonReadScenarios.Named.{NamesWhatItHas};
+ghost use Rattle.play_setup.specs.JsonReadScenarios.ReadsScenario as reads;
 ghost use Rattle.marlowe_play.specs.Faults.{IsOfText, IsRefused};
 ghost use Rattle.marlowe_play.specs.Played.{IsAnswered, IsPlayed, TellsAPlay, face_of, wanted};
 ghost use Rattle.marlowe_play.specs.PlayedSupport.{WerePlayed};
@@ -13,11 +13,9 @@ use crate::asked::{Asked, Face, Played};
 use crate::fault::PlayFault;
 use crate::lines::played_text;
 use crate::turns::{play_turns, seats_of, take_first, turns_of};
-use hub::{Hub, Opening, Seat, Session};
-use json_read_scenarios::{read_scenario, read_scenario_within};
-use parties::{LeftOut, NoWatch, Watch};
-use plans::Scenario;
-use play_setup::{Stage, first_chain, set_up};
+use parties::{Hub, LeftOut, NoWatch, Opening, Seat, Session, Watch};
+use play_endings::Scenario;
+use play_setup::{Stage, first_chain, read_scenario, read_scenario_within, set_up};
 use std::alloc::Global;
 use std::marker::Brand;
 use std::sync::Wait;

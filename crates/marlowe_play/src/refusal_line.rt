@@ -3,9 +3,8 @@ ghost use Rattle.std.specs.Prelude.{◌≡◌, ◌++◌, IfOk, codes};
 ghost use Rattle.marlowe_play.specs.Faults.{play_refusal_text};
 
 use crate::fault::PlayFault;
-use collections::Memory;
-use marlowe_refusals::json_fault_name;
-use play_setup::setup_line;
+use play_endings::Memory;
+use play_setup::{json_fault_name, setup_line};
 use std::alloc::Global;
 
 /// The line for a fault, without its line feed: `refused scenario NAME` where the JSON text has the fault, the line of the

@@ -4,12 +4,9 @@ ghost use Rattle.marlowe_play.specs.Strict as strict;
 ghost use Rattle.marlowe_play.specs.Strict.{is_among, closed_but, plan_done, plans_done, went_well};
 
 use crate::notes::{left_intents, plan_at};
-use collections::Memory;
-use ledger::Entry;
 use parties::LeftOut;
-use plans::{Plan, Scenario};
-use play_endings::{Taken, all_done, endings, entries_of, taken_in};
-use play_lines::ThreadLine;
+use play_endings::{Entry, Memory, Plan, Scenario, Taken, all_done, endings, entries_of, taken_in};
+use play_setup::ThreadLine;
 use std::alloc::Global;
 
 // Whether each intent of a plan is done, if there is one. Its seat has the number behind its place.

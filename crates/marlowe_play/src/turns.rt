@@ -1,15 +1,12 @@
 //! Parties with their seats, and how they play.
 ghost use Rattle.std.specs.Prelude.{◌≡◌, ◌<◌, ◌∷◌, length, map, Ok, IfOk};
 ghost use Rattle.std.specs.List.{All, AllZip};
-ghost use Rattle.json_read_scenarios.specs.Named.{PlanNames};
+ghost use Rattle.play_setup.specs.JsonReadScenarios.Named.{PlanNames};
 ghost use Rattle.marlowe_play.specs.PlayedSupport.{HasEnded};
 ghost use Rattle.play_setup.specs.SetUp.{currencies, plan_on};
 
-use collections::Memory;
-use eutxo_types::OutputRef;
-use hub::{Hub, Seat, SeatAtHub, Session};
-use parties::{LeftOut, Party, Watch};
-use plans::Scenario;
+use parties::{Hub, LeftOut, Party, Seat, SeatAtHub, Session, Watch};
+use play_endings::{Memory, OutputRef, Scenario};
 use play_setup::plan_on;
 use std::alloc::Global;
 use std::sync::Wait;

@@ -1,2 +1,5 @@
 mod PartsFit
 pub mod WithinLaws
+pub mod FromSemantics
+pub mod FromJsonWriteContracts
+pub mod FromContractJson

@@ -4,7 +4,7 @@ use Rattle.std.specs.Prelude.{slice_get, option_map}
 use Rattle.std.specs.Option.{option_and_then}
 use Rattle.std.proofs.lemmas.Bool.{and_parts}
 use Rattle.contract.specs.Tree.{ContractTree, close, pay, if_obs, when, let_be, assert, CaseTrees, no_cases, case_then}
-use Rattle.evaluation.specs.Path.{Turn, refund, next, then_branch, else_branch, timed_out, in_case, case_list, part, along}
+use Rattle.semantics.specs.Evaluation.Path.{Turn, refund, next, then_branch, else_branch, timed_out, in_case, case_list, part, along}
 use Rattle.json_write_contracts.specs.WrittenNames.{time_fits}
 use Rattle.json_write_contracts.specs.WrittenValues.{value_fits, observation_fits}
 use Rattle.json_write_contracts.specs.WrittenContract.{action_fits, contract_fits, cases_fit}

@@ -1,6 +1,6 @@
 -- Within 127 levels each answer is that of the calls without a depth.
 use Rattle.std.proofs.Common.{◌≡◌, ℕ, Bool, List, ap}
-use Rattle.collections.specs.Answers.{◌>>=◌}
+use Rattle.contract.specs.Collections.Answers.{◌>>=◌}
 use Rattle.contract.specs.Tree.{contract_tree}
 use Rattle.contract.specs.declared.tree.Contract.{Contract}
 use Rattle.json_read_names.specs.Parts.{Reading}

@@ -2,7 +2,7 @@
 use Rattle.std.specs.Prelude.{ℕ, pos, Bool, true, false, List, Option, Some, None, Ok}
 use Rattle.std.specs.FinMap.{empty}
 use Rattle.serde_json.specs.Data.{Data}
-use Rattle.states.specs.States.{StateMaps}
+use Rattle.contract.specs.States.States.{StateMaps}
 use Rattle.json_read_names.specs.Parts.{Reading}
 use Rattle.json_read_names.specs.ReadsText.{of_text}
 use Rattle.json_read_inputs.specs.ReadsState.{state, state_with_texts}

@@ -1,10 +1,10 @@
 -- What the program prints of the table of a contract, or what it tells where there is none.
 use Rattle.std.specs.Prelude.{ℕ, List, Option, Some, None, Result, Ok, Err}
-use Rattle.collections.specs.Answers.{◌>>=◌}
+use Rattle.contract.specs.Collections.Answers.{◌>>=◌}
 use Rattle.contract.specs.Tree.{ContractTree, contract_tree}
 use Rattle.json_read_names.specs.ReadsText.{of_text, of_text_within}
 use Rattle.json_read_contracts.specs.ReadsContract.{contract}
-use Rattle.lowering.specs.Code.{code}
+use Rattle.compiler.specs.Lowering.Code.{code}
 use Rattle.compiler.specs.declared.fault.CompileFault.{CompileFault}
 use Rattle.compiler.specs.Limits.{compile_fault}
 use Rattle.table_lines.specs.TableLines.{table_lines}

@@ -2,7 +2,7 @@
 //! the contract of a function that does nothing.
 ghost use Rattle.std.specs.Prelude.{◌≡◌, ℕ, Bool, List, true, Some};
 ghost use Rattle.contract.specs.Tree.{ContractTree};
-ghost use Rattle.evaluation.specs.Path.{Turn, along};
+ghost use Rattle.semantics.specs.Evaluation.Path.{Turn, along};
 ghost use Rattle.json_write_contracts.specs.WrittenContract.{contract_fits};
 ghost use Rattle.marlowe_run.specs.Run.{run_by, run_within, within_127};
 ghost use Rattle.marlowe_run.specs.Start.{state_reading};

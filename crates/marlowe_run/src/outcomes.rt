@@ -4,8 +4,7 @@ ghost use Rattle.contract.specs.Tree.{contract_tree};
 ghost use Rattle.json_write_contracts.specs.WrittenContract.{contract_fits};
 ghost use Rattle.marlowe_run.specs.Run.{outcome_line};
 
-use collections::Memory;
-use contract::{Contract, Outcome};
+use contract::{Contract, Memory, Outcome};
 use contract_json::{WriteFault, write_outcome};
 use std::alloc::{AllocError, Global};
 

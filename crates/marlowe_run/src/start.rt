@@ -1,6 +1,6 @@
 //! The state in which transactions start.
 ghost use Rattle.std.specs.Prelude.{◌≡◌, option_map};
-ghost use Rattle.collections.specs.Answers.{Aside};
+ghost use Rattle.contract.specs.Collections.Answers.{Aside};
 ghost use Rattle.json_read_names.specs.ReadsText.{of_text};
 ghost use Rattle.marlowe_run.specs.Start.{start_of, state_reading};
 

@@ -1,5 +1,5 @@
 //! The table of a contract, from text to text.
-ghost use Rattle.collections.specs.Answers.{AsideBy};
+ghost use Rattle.contract.specs.Collections.Answers.{AsideBy};
 ghost use Rattle.contract.specs.Tree.{contract_tree};
 ghost use Rattle.marlowe_run.specs.TableText.{printed_table, table_text, table_text_within};
 

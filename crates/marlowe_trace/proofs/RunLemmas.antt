@@ -1,30 +1,30 @@
 -- A trace is runs, one after another.
 use Rattle.std.proofs.Common.{◌≡◌, ◌≢◌, ℕ, suc, Bool, false, List, [], ◌∷◌, ◌++◌, Some, Result, Ok, Err, refl, sym, ap, ◌∙◌}
 use Rattle.std.specs.Prelude.{option_map}
-use Rattle.collections.specs.Answers.{◌>>=◌}
+use Rattle.contract.specs.Collections.Answers.{◌>>=◌}
 use Rattle.contract.specs.declared.fault.SemFault.{SemFault}
 use Rattle.contract.specs.declared.fault.SemFault.TheVariants as sem
 use Rattle.contract.specs.declared.transaction.Transaction.{Transaction}
 use Rattle.contract.specs.declared.tree.Contract.{Contract}
 use Rattle.contract.specs.Tree.{ContractTree, contract_tree}
-use Rattle.states.specs.States.{StateMaps}
-use Rattle.json_read_names.specs.Parts.{Reading}
-use Rattle.json_read_names.specs.ReadsText.{of_text, of_text_within}
-use Rattle.json_read_names.specs.declared.fault.JsonFault.{JsonFault}
-use Rattle.json_read_names.specs.declared.fault.JsonFault.TheVariants as json
-use Rattle.json_read_contracts.specs.ReadsContract.{contract}
-use Rattle.json_read_inputs.specs.ReadsInput.{transaction}
+use Rattle.contract.specs.States.States.{StateMaps}
+use Rattle.marlowe_run.specs.JsonReadNames.Parts.{Reading}
+use Rattle.marlowe_run.specs.JsonReadNames.ReadsText.{of_text, of_text_within}
+use Rattle.marlowe_run.specs.JsonReadNames.declared.fault.JsonFault.{JsonFault}
+use Rattle.marlowe_run.specs.JsonReadNames.declared.fault.JsonFault.TheVariants as json
+use Rattle.marlowe_run.specs.JsonReadContracts.ReadsContract.{contract}
+use Rattle.marlowe_run.specs.JsonReadInputs.ReadsInput.{transaction}
 use Rattle.json_read_transactions.specs.declared.fault.ReadFault.{ReadFault}
 use Rattle.json_read_transactions.specs.ReadsTransactions.{transactions_of}
 use Rattle.json_read_transactions.proofs.TakingLaws.{one_is_read_alone, rest_is_read}
-use Rattle.semantics.specs.Walk.{Standing, standing, answer_of}
-use Rattle.semantics.proofs.Faults.{never_memory}
+use Rattle.marlowe_run.specs.Semantics.Walk.{Standing, standing, answer_of}
+use Rattle.marlowe_run.proofs.FromSemantics.Faults.{never_memory}
 use Rattle.analysis_spec.specs.Runs.{walk_from}
 use Rattle.trace.specs.Traces.{walks, left_then, left_by}
-use Rattle.marlowe_refusals.specs.declared.trace_fault.TraceFault.{TraceFault}
-use Rattle.marlowe_refusals.specs.declared.trace_fault.TraceFault.TheVariants as trace
-use Rattle.marlowe_refusals.specs.Faults.{read_as, contract_fault, state_fault, transaction_fault, semantics_fault}
-use Rattle.marlowe_refusals.specs.TraceFaults.{told_as, texts_fault}
+use Rattle.marlowe_run.specs.MarloweRefusals.declared.trace_fault.TraceFault.{TraceFault}
+use Rattle.marlowe_run.specs.MarloweRefusals.declared.trace_fault.TraceFault.TheVariants as trace
+use Rattle.marlowe_run.specs.MarloweRefusals.Faults.{read_as, contract_fault, state_fault, transaction_fault, semantics_fault}
+use Rattle.marlowe_run.specs.MarloweRefusals.TraceFaults.{told_as, texts_fault}
 use Rattle.marlowe_run.specs.declared.readable.Readable.{Readable}
 use Rattle.marlowe_run.specs.Run.{printed, answer_text, transaction_text, run_from, run_within}
 use Rattle.marlowe_run.specs.Start.{state_reading}

@@ -5,12 +5,12 @@ use Rattle.std.proofs.lemmas.Bool.Decides.{nat_tests}
 use Rattle.std.proofs.lemmas.List.{at_drop_more}
 use Rattle.contract.specs.declared.fault.SemFault.{SemFault}
 use Rattle.contract.specs.declared.transaction.Transaction.{Transaction}
-use Rattle.semantics.specs.Walk.{Standing, Walk, answer_of}
+use Rattle.marlowe_run.specs.Semantics.Walk.{Standing, Walk, answer_of}
 use Rattle.analysis_spec.specs.Runs.{walk_from}
 use Rattle.trace.specs.Traces.{walks_then, walks, left_then, left_by}
 use Rattle.marlowe_run.specs.Run.{printed}
-use Rattle.json_read_inputs.specs.ReadsState.{state_with_texts}
-use Rattle.json_write_outcomes.specs.WrittenOutcome.{state_json}
+use Rattle.marlowe_run.specs.JsonReadInputs.ReadsState.{state_with_texts}
+use Rattle.marlowe_run.specs.JsonWriteOutcomes.WrittenOutcome.{state_json}
 use Rattle.marlowe_trace.specs.Traced.{ReturnsThen, StatesReturn, line_or_nothing, line_of, last_line, lines_of}
 
 -- whether the line of a transaction is printed, by what comes behind it

@@ -3,16 +3,16 @@ use Rattle.std.specs.Prelude.{◌≡◌, ℕ, suc, false, List, [], ◌∷◌, �
 use Rattle.contract.specs.Tree.{contract_tree}
 use Rattle.contract.specs.declared.tree.Contract.{Contract}
 use Rattle.contract.specs.declared.transaction.Transaction.{Transaction}
-use Rattle.json_read_names.specs.ReadsText.{of_text, of_text_within}
-use Rattle.json_read_contracts.specs.ReadsContract.{contract}
-use Rattle.json_read_inputs.specs.ReadsInput.{transaction}
+use Rattle.marlowe_run.specs.JsonReadNames.ReadsText.{of_text, of_text_within}
+use Rattle.marlowe_run.specs.JsonReadContracts.ReadsContract.{contract}
+use Rattle.marlowe_run.specs.JsonReadInputs.ReadsInput.{transaction}
 use Rattle.json_read_transactions.specs.ReadsTransactions.{transactions_of}
-use Rattle.semantics.specs.Walk.{Standing, answer_of}
+use Rattle.marlowe_run.specs.Semantics.Walk.{Standing, answer_of}
 use Rattle.analysis_spec.specs.Runs.{walk_from}
-use Rattle.marlowe_refusals.specs.declared.fault.RunFault.{RunFault}
-use Rattle.marlowe_refusals.specs.declared.fault.RunFault.TheVariants as run
-use Rattle.marlowe_refusals.specs.declared.trace_fault.TraceFault.{TraceFault}
-use Rattle.marlowe_refusals.specs.declared.trace_fault.TraceFault.TheVariants as trace
+use Rattle.marlowe_run.specs.MarloweRefusals.declared.fault.RunFault.{RunFault}
+use Rattle.marlowe_run.specs.MarloweRefusals.declared.fault.RunFault.TheVariants as run
+use Rattle.marlowe_run.specs.MarloweRefusals.declared.trace_fault.TraceFault.{TraceFault}
+use Rattle.marlowe_run.specs.MarloweRefusals.declared.trace_fault.TraceFault.TheVariants as trace
 use Rattle.marlowe_run.specs.declared.readable.Readable.{Readable}
 use Rattle.marlowe_run.specs.Run.{run_within, printed}
 use Rattle.marlowe_run.specs.Start.{state_reading}

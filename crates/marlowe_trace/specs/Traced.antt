@@ -1,26 +1,26 @@
 -- What is printed of transactions one after another, from the texts of a contract, a state and the transactions.
 use Rattle.std.specs.Prelude.{◌≡◌, ◌≢◌, ℕ, suc, Bool, true, false, List, [], ◌∷◌, flat_map, Option, Some, None, Result, Ok, Err}
-use Rattle.collections.specs.Answers.{◌>>=◌}
+use Rattle.contract.specs.Collections.Answers.{◌>>=◌}
 use Rattle.contract.specs.Tree.{ContractTree, contract_tree}
 use Rattle.contract.specs.declared.fault.SemFault.{SemFault}
 use Rattle.contract.specs.declared.transaction.Transaction.{Transaction}
 use Rattle.contract.specs.declared.tree.Contract.{Contract}
-use Rattle.states.specs.States.{StateMaps}
-use Rattle.json_read_names.specs.ReadsText.{of_text_within}
-use Rattle.json_read_contracts.specs.ReadsContract.{contract}
-use Rattle.json_read_inputs.specs.ReadsState.{state_with_texts}
+use Rattle.contract.specs.States.States.{StateMaps}
+use Rattle.marlowe_run.specs.JsonReadNames.ReadsText.{of_text_within}
+use Rattle.marlowe_run.specs.JsonReadContracts.ReadsContract.{contract}
+use Rattle.marlowe_run.specs.JsonReadInputs.ReadsState.{state_with_texts}
 use Rattle.json_read_transactions.specs.ReadsTransactions.{transactions_of}
-use Rattle.json_write_contracts.specs.declared.fault.WriteFault.{WriteFault}
-use Rattle.json_write_outcomes.specs.WrittenOutcome.{state_json}
-use Rattle.semantics.specs.Walk.{Standing, standing, Walk, answer_of}
+use Rattle.marlowe_run.specs.JsonWriteContracts.declared.fault.WriteFault.{WriteFault}
+use Rattle.marlowe_run.specs.JsonWriteOutcomes.WrittenOutcome.{state_json}
+use Rattle.marlowe_run.specs.Semantics.Walk.{Standing, standing, Walk, answer_of}
 use Rattle.analysis_spec.specs.Runs.{walk_from}
 use Rattle.trace.specs.declared.refused.Refused.{Refused}
 use Rattle.trace.specs.Traces.{walks, left_by}
-use Rattle.marlowe_refusals.specs.declared.fault.RunFault.TheVariants as run
-use Rattle.marlowe_refusals.specs.declared.trace_fault.TraceFault.{TraceFault}
-use Rattle.marlowe_refusals.specs.declared.trace_fault.TraceFault.TheVariants as trace
-use Rattle.marlowe_refusals.specs.Faults.{read_as, contract_fault, state_fault}
-use Rattle.marlowe_refusals.specs.TraceFaults.{told_as, texts_fault}
+use Rattle.marlowe_run.specs.MarloweRefusals.declared.fault.RunFault.TheVariants as run
+use Rattle.marlowe_run.specs.MarloweRefusals.declared.trace_fault.TraceFault.{TraceFault}
+use Rattle.marlowe_run.specs.MarloweRefusals.declared.trace_fault.TraceFault.TheVariants as trace
+use Rattle.marlowe_run.specs.MarloweRefusals.Faults.{read_as, contract_fault, state_fault}
+use Rattle.marlowe_run.specs.MarloweRefusals.TraceFaults.{told_as, texts_fault}
 use Rattle.marlowe_run.specs.Run.{printed}
 use Rattle.marlowe_run.specs.Start.{start_of}
 use Rattle.marlowe_trace.specs.declared.texts.Asked.{Asked}

@@ -1,21 +1,19 @@
 //! Transactions one after another, and the lines of their outcomes.
 ghost use Rattle.std.specs.Prelude.{◌≡◌, ◌≢◌, ◌+◌, ◌<◌, ◌==◌, ◌||◌, not, ◌++◌, [], true, Ok, IfOk, MatchResult, if◌then◌else◌};
-ghost use Rattle.collections.specs.Answers.{AsideBy};
+ghost use Rattle.contract.specs.Collections.Answers.{AsideBy};
 ghost use Rattle.contract.specs.Tree.{contract_tree};
-ghost use Rattle.json_write_contracts.specs.WrittenContract.{contract_fits};
-ghost use Rattle.json_read_inputs.specs.ReadsState.{state_with_texts};
-ghost use Rattle.json_write_outcomes.specs.WrittenOutcome.{state_json};
-ghost use Rattle.semantics.specs.Walk.{standing, answer_of};
+ghost use Rattle.marlowe_run.specs.JsonWriteContracts.WrittenContract.{contract_fits};
+ghost use Rattle.marlowe_run.specs.JsonReadInputs.ReadsState.{state_with_texts};
+ghost use Rattle.marlowe_run.specs.JsonWriteOutcomes.WrittenOutcome.{state_json};
+ghost use Rattle.marlowe_run.specs.Semantics.Walk.{standing, answer_of};
 ghost use Rattle.analysis_spec.specs.Runs.{walk_from};
 ghost use Rattle.marlowe_trace.specs.Traced.{StatesReturn, line_of, told_of};
 
 use crate::texts::Traced;
-use collections::Memory;
-use contract::{Contract, SemFault, State, Transaction};
-use contract_json::state_is_read_back;
-use marlowe_refusals::TraceFault;
-use marlowe_run::{outcome_line, parts_can_be_written};
-use semantics::{Plain, Steps};
+use contract::{Contract, Memory, SemFault, State, Transaction};
+use marlowe_run::{
+    Plain, Steps, TraceFault, outcome_line, parts_can_be_written, state_is_read_back,
+};
 use std::alloc::{AllocError, Global};
 
 // Where a contract stands between two transactions.

@@ -1,16 +1,17 @@
 //! Transactions one after another, from text to text.
 ghost use Rattle.std.specs.Prelude.{◌≡◌, true, IfOk, map, option_map};
-ghost use Rattle.collections.specs.Answers.{AsideBy};
+ghost use Rattle.contract.specs.Collections.Answers.{AsideBy};
 ghost use Rattle.contract.specs.Tree.{contract_tree};
-ghost use Rattle.json_write_contracts.specs.WrittenContract.{contract_fits};
+ghost use Rattle.marlowe_run.specs.JsonWriteContracts.WrittenContract.{contract_fits};
 ghost use Rattle.marlowe_trace.specs.Traced.{AllStatesReturn, CanBeWritten, StatesReturnFrom, trace_from, trace_text};
 
 use crate::steps::traced;
 use contract::Contract;
-use contract_json::{read_contract_within, what_is_read_within_can_be_written};
 use json_read_transactions::read_transactions;
-use marlowe_refusals::{RunFault, TraceFault};
-use marlowe_run::{Readable, beside_dropped, read_start};
+use marlowe_run::{
+    Readable, RunFault, TraceFault, beside_dropped, read_contract_within, read_start,
+    what_is_read_within_can_be_written,
+};
 use std::alloc::Global;
 
 /// How transactions are traced.

@@ -14,6 +14,7 @@ mod token;
 pub use account::Account;
 pub use bound::Bound;
 pub use choice_id::ChoiceId;
+pub use collections;
 pub use laws::{names_are_told_apart, names_stand_in_order};
 pub use party::Party;
 pub use payee::Payee;

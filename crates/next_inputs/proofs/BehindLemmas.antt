@@ -5,19 +5,19 @@ use Rattle.std.proofs.lemmas.Int.{ints}
 use Rattle.std.specs.Option.{is_none}
 use Rattle.std.specs.Result.{result_err}
 use Rattle.std.specs.Int.{int_max}
-use Rattle.names.specs.declared.party.Party.{Party}
-use Rattle.names.specs.declared.token.Token.{Token}
+use Rattle.contract.specs.Names.declared.party.Party.{Party}
+use Rattle.contract.specs.Names.declared.token.Token.{Token}
 use Rattle.contract.specs.declared.fault.SemFault.{SemFault}
 use Rattle.contract.specs.declared.fault.SemFault.TheVariants.{InvalidInterval, IntervalInPast, Useless, Leaves128, Ambiguous}
 use Rattle.contract.specs.declared.input.Input.{Input}
 use Rattle.contract.specs.declared.input.Input.TheVariants.{Deposit, Choice, Notify}
 use Rattle.contract.specs.declared.interval.Interval.{Interval}
-use Rattle.states.specs.States.{StateMaps, with_money}
+use Rattle.contract.specs.States.States.{StateMaps, with_money}
 use Rattle.contract.specs.Tree.{ActionTree, ContractTree, CaseTrees, close, when}
-use Rattle.evaluation.specs.Numbers.{fits, all_fit, within}
-use Rattle.evaluation.specs.Checked.{checked}
-use Rattle.evaluation.specs.Path.{waits_for}
-use Rattle.evaluation.proofs.Numbers.{all_fit_append}
+use Rattle.semantics.specs.Evaluation.Numbers.{fits, all_fit, within}
+use Rattle.semantics.specs.Evaluation.Checked.{checked}
+use Rattle.semantics.specs.Evaluation.Path.{waits_for}
+use Rattle.semantics.proofs.FromEvaluation.Numbers.{all_fit_append}
 use Rattle.semantics.specs.Walk.{Standing, standing, Walk, ended, joined, then_walk, answer_of}
 use Rattle.semantics.specs.Reduction.{account_of, balance, timing_out}
 use Rattle.semantics.specs.Settling.{reduction_then}

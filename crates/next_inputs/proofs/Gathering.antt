@@ -12,7 +12,7 @@ use Rattle.claims.specs.Claims.{takes, owner, IsLane, is_before, BeforeAll, AreA
 use Rattle.claims.proofs.Numbers.{both, le_true, true_le}
 use Rattle.claims.proofs.Apart.{lies, all_right, apart_head}
 use Rattle.claims.proofs.Owners.{Taken, taken, takes_it, not_both}
-use Rattle.names.specs.declared.bound.Bound.{Bound}
+use Rattle.contract.specs.Names.declared.bound.Bound.{Bound}
 use Rattle.contract.specs.Tree.{ActionTree, ContractTree}
 use Rattle.semantics.specs.Applying.{in_bound}
 use Rattle.next_inputs.specs.declared.lane.Lane.{Lane}

@@ -7,20 +7,20 @@ use Rattle.std.proofs.lemmas.Int.{ints}
 use Rattle.claims.specs.declared.claim.Claim.{Claim}
 use Rattle.claims.specs.Claims.{owner, IsLane, AreApart}
 use Rattle.claims.proofs.Numbers.{both, le_true}
-use Rattle.names.specs.Equal.{same_choice_id}
-use Rattle.names.specs.declared.bound.Bound.{Bound}
-use Rattle.names.specs.declared.party.Party.{Party}
-use Rattle.names.specs.declared.token.Token.{Token}
-use Rattle.names.specs.declared.choice_id.ChoiceId.{ChoiceId}
+use Rattle.contract.specs.Names.Equal.{same_choice_id}
+use Rattle.contract.specs.Names.declared.bound.Bound.{Bound}
+use Rattle.contract.specs.Names.declared.party.Party.{Party}
+use Rattle.contract.specs.Names.declared.token.Token.{Token}
+use Rattle.contract.specs.Names.declared.choice_id.ChoiceId.{ChoiceId}
 use Rattle.contract.specs.declared.input.Input.{Input}
 use Rattle.contract.specs.declared.input.Input.TheVariants as inputs
 use Rattle.contract.specs.declared.interval.Interval.{Interval}
-use Rattle.states.specs.States.{StateMaps}
+use Rattle.contract.specs.States.States.{StateMaps}
 use Rattle.contract.specs.Tree.{ValueTree, available_money, constant, neg_value, add_value, sub_value, mul_value, div_value, choice_value, time_interval_start, time_interval_end, use_value, cond_value}
 use Rattle.contract.specs.Tree.{ObservationTree, ActionTree, deposit, choice, notify, ContractTree}
-use Rattle.evaluation.specs.Numbers.{fits, all_fit}
-use Rattle.evaluation.specs.Evaluation.{eval, visited, holds, looked}
-use Rattle.evaluation.proofs.Numbers.{all_fit_append}
+use Rattle.semantics.specs.Evaluation.Numbers.{fits, all_fit}
+use Rattle.semantics.specs.Evaluation.Evaluation.{eval, visited, holds, looked}
+use Rattle.semantics.proofs.FromEvaluation.Numbers.{all_fit_append}
 use Rattle.semantics.specs.Applying.{agrees, in_bound, matches, tried}
 use Rattle.next_inputs.specs.declared.lane.Lane.{Lane}
 use Rattle.next_inputs.specs.declared.offer.Offer.{Offer}

@@ -4,19 +4,19 @@ use Rattle.std.specs.Prelude.{◌↔◌, slice_get, option_map}
 use Rattle.std.specs.Option.{is_none}
 use Rattle.std.proofs.lemmas.Int.{ints}
 use Rattle.std.specs.FinMap.{entries, empty, empty_of_len, len-entries}
-use Rattle.names.specs.declared.account.Account.{Account}
+use Rattle.contract.specs.Names.declared.account.Account.{Account}
 use Rattle.contract.specs.declared.fault.SemFault.{SemFault}
 use Rattle.contract.specs.declared.fault.SemFault.TheVariants.{InvalidInterval, IntervalInPast, NoMatch, Ambiguous, Useless, Leaves128}
 use Rattle.contract.specs.declared.input.Input.{Input}
 use Rattle.contract.specs.declared.interval.Interval.{Interval}
 use Rattle.contract.specs.declared.payment.Payment.{Payment}
 use Rattle.contract.specs.declared.warning.Warning.{Warning}
-use Rattle.states.specs.States.{StateMaps}
+use Rattle.contract.specs.States.States.{StateMaps}
 use Rattle.contract.specs.Tree.{ActionTree, ContractTree, CaseTrees, close, pay, if_obs, when, let_be, assert}
-use Rattle.evaluation.specs.Numbers.{all_fit}
-use Rattle.evaluation.specs.Evaluation.{eval, visited, holds, looked}
-use Rattle.evaluation.specs.Path.{waits_for}
-use Rattle.evaluation.proofs.Numbers.{all_fit_append}
+use Rattle.semantics.specs.Evaluation.Numbers.{all_fit}
+use Rattle.semantics.specs.Evaluation.Evaluation.{eval, visited, holds, looked}
+use Rattle.semantics.specs.Evaluation.Path.{waits_for}
+use Rattle.semantics.proofs.FromEvaluation.Numbers.{all_fit_append}
 use Rattle.semantics.specs.Walk.{Turn, refund, in_case, Standing, standing, Walk, ended, joined, then_from, then_walk, answer_of}
 use Rattle.semantics.specs.Reduction.{Reduction, Quiet, refund_of, choosing, timing_out, binding, asserting}
 use Rattle.semantics.specs.Settling.{Ends, reduction_then}

@@ -7,9 +7,9 @@ use Rattle.contract.specs.declared.input.Input.{Input}
 use Rattle.contract.specs.declared.interval.Interval.{Interval}
 use Rattle.contract.specs.declared.payment.Payment.{Payment}
 use Rattle.contract.specs.declared.warning.Warning.{Warning}
-use Rattle.states.specs.States.{StateMaps}
+use Rattle.contract.specs.States.States.{StateMaps}
 use Rattle.contract.specs.Tree.{ContractTree}
-use Rattle.evaluation.specs.Path.{waits_for, Turn}
+use Rattle.semantics.specs.Evaluation.Path.{waits_for, Turn}
 use Rattle.semantics.specs.Walk.{Standing, standing, Walk, ended, answer_of}
 use Rattle.semantics.specs.Transaction.{trimmed, begun}
 use Rattle.semantics.specs.Computed.{computed}

@@ -5,7 +5,7 @@ use Rattle.std.proofs.lemmas.Bool.Decides.{Decides-int_eq}
 use Rattle.std.specs.Cmp.{both_ways}
 use Rattle.std.specs.Ordering.{int_eq}
 use Rattle.claims.proofs.Numbers.{both, le_true, true_le, false_le, lt_true, true_lt, false_lt}
-use Rattle.names.specs.declared.bound.Bound.{Bound}
+use Rattle.contract.specs.Names.declared.bound.Bound.{Bound}
 use Rattle.semantics.specs.Applying.{in_bound}
 
 pub itself : (n : ℤ) → n ≤ℤ n

@@ -7,20 +7,20 @@ use Rattle.std.proofs.lemmas.List.{take_all}
 use Rattle.claims.specs.declared.claim.Claim.{Claim}
 use Rattle.claims.specs.Claims.{takes, owner}
 use Rattle.claims.proofs.Owners.{or_else, owner_or}
-use Rattle.names.specs.declared.bound.Bound.{Bound}
-use Rattle.names.specs.declared.party.Party.{Party}
-use Rattle.names.specs.declared.token.Token.{Token}
-use Rattle.names.specs.declared.choice_id.ChoiceId.{ChoiceId}
+use Rattle.contract.specs.Names.declared.bound.Bound.{Bound}
+use Rattle.contract.specs.Names.declared.party.Party.{Party}
+use Rattle.contract.specs.Names.declared.token.Token.{Token}
+use Rattle.contract.specs.Names.declared.choice_id.ChoiceId.{ChoiceId}
 use Rattle.contract.specs.declared.input.Input.{Input}
 use Rattle.contract.specs.declared.input.Input.TheVariants as inputs
 use Rattle.contract.specs.declared.interval.Interval.{Interval}
-use Rattle.states.specs.States.{StateMaps}
+use Rattle.contract.specs.States.States.{StateMaps}
 use Rattle.contract.specs.Tree.{ValueTree, ObservationTree, ActionTree, deposit, choice, notify, ContractTree}
-use Rattle.evaluation.specs.Parts.{wait_tree}
-use Rattle.evaluation.specs.declared.form.Wait.{Wait}
-use Rattle.evaluation.specs.declared.form.Wait.TheVariants as waits
-use Rattle.evaluation.specs.Numbers.{fits, all_fit}
-use Rattle.evaluation.specs.Evaluation.{eval, visited, holds, looked}
+use Rattle.semantics.specs.Evaluation.Parts.{wait_tree}
+use Rattle.semantics.specs.Evaluation.declared.form.Wait.{Wait}
+use Rattle.semantics.specs.Evaluation.declared.form.Wait.TheVariants as waits
+use Rattle.semantics.specs.Evaluation.Numbers.{fits, all_fit}
+use Rattle.semantics.specs.Evaluation.Evaluation.{eval, visited, holds, looked}
 use Rattle.semantics.specs.Applying.{agrees, in_bound, matches, tried}
 use Rattle.next_inputs.specs.declared.lane.Lane.{Lane}
 use Rattle.next_inputs.specs.Taking.{number_of}

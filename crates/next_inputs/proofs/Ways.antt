@@ -4,11 +4,11 @@ use Rattle.std.specs.declared.cmp.Ordering.{Ordering}
 use Rattle.std.specs.declared.cmp.Ordering.TheVariants.{Less, Equal, Greater}
 use Rattle.std.specs.Ordering.{is_eq, eq_by_cmp, ordering_then, ordering_reverse}
 use Rattle.std.specs.Cmp.{Equal-is, tied_itself}
-use Rattle.names.specs.Equal.{same_choice_id}
-use Rattle.names.specs.declared.party.Party.{Party}
-use Rattle.names.specs.declared.token.Token.{Token}
-use Rattle.names.specs.declared.choice_id.ChoiceId.{ChoiceId}
-use Rattle.names.specs.Orders.{party_cmp, token_cmp, choice_id_cmp}
+use Rattle.contract.specs.Names.Equal.{same_choice_id}
+use Rattle.contract.specs.Names.declared.party.Party.{Party}
+use Rattle.contract.specs.Names.declared.token.Token.{Token}
+use Rattle.contract.specs.Names.declared.choice_id.ChoiceId.{ChoiceId}
+use Rattle.contract.specs.Names.Orders.{party_cmp, token_cmp, choice_id_cmp}
 use Rattle.semantics.specs.Applying.{agrees}
 use Rattle.claims.specs.Claims.{IsLane}
 use Rattle.next_inputs.specs.declared.lane.Lane.{Lane}

@@ -2,10 +2,10 @@
 use Rattle.std.proofs.Common.{◌≡◌, ℤ, pos, Option, Some, [], ◌∷◌, refl, ap}
 use Rattle.std.specs.Option.{unwrap_or}
 use Rattle.std.specs.FinMap.{get, insert, empty, get-insert, get-from_sorted}
-use Rattle.names.specs.Equal.{ada}
-use Rattle.names.specs.Totals.{bytes_total}
-use Rattle.names.specs.Orders.{account_cmp, bytes_cmp}
-use Rattle.evaluation.specs.Numbers.{fits}
+use Rattle.contract.specs.Names.Equal.{ada}
+use Rattle.contract.specs.Names.Totals.{bytes_total}
+use Rattle.contract.specs.Names.Orders.{account_cmp, bytes_cmp}
+use Rattle.semantics.specs.Evaluation.Numbers.{fits}
 use Rattle.semantics.specs.Reduction.{account_of, balance}
 use Rattle.semantics.specs.Computed.{applied, one_input, from_start, computed}
 use Rattle.semantics.specs.Rows.{a_has_three, party_a, name_x}

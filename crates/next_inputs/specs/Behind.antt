@@ -4,7 +4,7 @@ use Rattle.std.specs.Result.{result_err}
 use Rattle.contract.specs.declared.fault.SemFault.{SemFault}
 use Rattle.contract.specs.declared.input.Input.{Input}
 use Rattle.contract.specs.declared.interval.Interval.{Interval}
-use Rattle.states.specs.States.{StateMaps}
+use Rattle.contract.specs.States.States.{StateMaps}
 use Rattle.contract.specs.Tree.{ContractTree}
 use Rattle.semantics.specs.Walk.{standing, answer_of}
 use Rattle.semantics.specs.Transaction.{trimmed}

@@ -4,17 +4,17 @@ use Rattle.std.specs.List.{AllByRecursion}
 use Rattle.std.specs.Ordering.{eq_by_cmp, int_eq}
 use Rattle.claims.specs.declared.claim.Claim.{Claim}
 use Rattle.claims.specs.Claims.{owner}
-use Rattle.names.specs.declared.bound.Bound.{Bound}
+use Rattle.contract.specs.Names.declared.bound.Bound.{Bound}
 use Rattle.contract.specs.declared.input.Input.{Input}
 use Rattle.contract.specs.declared.input.Input.TheVariants as inputs
 use Rattle.contract.specs.declared.interval.Interval.{Interval}
-use Rattle.states.specs.States.{StateMaps}
+use Rattle.contract.specs.States.States.{StateMaps}
 use Rattle.contract.specs.Tree.{ValueTree, ObservationTree, ActionTree, deposit, choice, notify, ContractTree}
-use Rattle.evaluation.specs.Numbers.{fits, all_fit}
-use Rattle.evaluation.specs.Evaluation.{eval, visited, holds, looked}
-use Rattle.evaluation.specs.declared.form.Wait.{Wait}
-use Rattle.evaluation.specs.declared.form.Wait.TheVariants as waits
-use Rattle.evaluation.specs.Parts.{wait_tree}
+use Rattle.semantics.specs.Evaluation.Numbers.{fits, all_fit}
+use Rattle.semantics.specs.Evaluation.Evaluation.{eval, visited, holds, looked}
+use Rattle.semantics.specs.Evaluation.declared.form.Wait.{Wait}
+use Rattle.semantics.specs.Evaluation.declared.form.Wait.TheVariants as waits
+use Rattle.semantics.specs.Evaluation.Parts.{wait_tree}
 use Rattle.semantics.specs.Applying.{matches, tried}
 use Rattle.next_inputs.specs.declared.lane.Lane.{Lane}
 use Rattle.next_inputs.specs.declared.lane.Lane.TheVariants as lanes

@@ -4,7 +4,7 @@ use Rattle.contract.specs.declared.fault.SemFault.{SemFault}
 use Rattle.contract.specs.declared.fault.SemFault.TheVariants.{NoMatch, Ambiguous, Leaves128}
 use Rattle.contract.specs.declared.input.Input.{Input}
 use Rattle.contract.specs.declared.interval.Interval.{Interval}
-use Rattle.states.specs.States.{StateMaps}
+use Rattle.contract.specs.States.States.{StateMaps}
 use Rattle.contract.specs.Tree.{ContractTree, CaseTrees, when}
 use Rattle.semantics.specs.Walk.{Turn, in_case, Standing, answer_of}
 use Rattle.semantics.specs.Reduction.{Quiet}

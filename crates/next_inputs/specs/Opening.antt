@@ -5,10 +5,10 @@ use Rattle.contract.specs.declared.fault.SemFault.{SemFault}
 use Rattle.contract.specs.declared.fault.SemFault.TheVariants.{InvalidInterval, IntervalInPast}
 use Rattle.contract.specs.declared.interval.Interval.{Interval}
 use Rattle.contract.specs.declared.outcome.Outcome.{Outcome}
-use Rattle.states.specs.States.{StateMaps}
+use Rattle.contract.specs.States.States.{StateMaps}
 use Rattle.contract.specs.Tree.{ContractTree, when}
 use Rattle.contract.specs.declared.input.Input.{Input}
-use Rattle.evaluation.specs.Path.{waits_for}
+use Rattle.semantics.specs.Evaluation.Path.{waits_for}
 use Rattle.semantics.specs.Walk.{Turn, Standing, standing, Walk, ended, answer_of}
 use Rattle.semantics.specs.Transaction.{trimmed, begun}
 use Rattle.semantics.specs.Computed.{settled, computed}

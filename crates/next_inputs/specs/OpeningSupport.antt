@@ -5,7 +5,7 @@ use Rattle.contract.specs.declared.fault.SemFault.{SemFault}
 use Rattle.contract.specs.declared.fault.SemFault.TheVariants.{Leaves128}
 use Rattle.contract.specs.declared.interval.Interval.{Interval}
 use Rattle.contract.specs.Tree.{ContractTree}
-use Rattle.states.specs.States.{StateMaps}
+use Rattle.contract.specs.States.States.{StateMaps}
 use Rattle.semantics.specs.Walk.{answer_of}
 use Rattle.semantics.specs.Computed.{settled}
 use Rattle.next_inputs.specs.declared.reduction.Opened.{Opened}

@@ -1,13 +1,13 @@
 -- Worked rows of what can be done next, computed on the definitions.
 use Rattle.std.specs.Prelude.{◌≡◌, ◌-◌, ◌^◌, ℤ, pos, List, [], ◌∷◌, Some, None}
 use Rattle.std.specs.Result.{result_err}
-use Rattle.names.specs.declared.party.Party.{Party}
-use Rattle.names.specs.Equal.{ada}
+use Rattle.contract.specs.Names.declared.party.Party.{Party}
+use Rattle.contract.specs.Names.Equal.{ada}
 use Rattle.contract.specs.declared.fault.SemFault.TheVariants.{Ambiguous, Leaves128}
 use Rattle.contract.specs.declared.input.Input.{Input}
 use Rattle.contract.specs.declared.input.Input.TheVariants as inputs
 use Rattle.contract.specs.Tree.{ValueTree, constant, add_value, time_interval_start, use_value, ActionTree, deposit, choice, notify, ContractTree, close, when, let_be, no_cases, case_then, true_obs, false_obs, value_ge}
-use Rattle.evaluation.specs.EvaluationRows.{too_large}
+use Rattle.semantics.specs.Evaluation.EvaluationRows.{too_large}
 use Rattle.semantics.specs.Walk.{answer_of}
 use Rattle.semantics.specs.Computed.{computed}
 use Rattle.semantics.specs.Rows.{interval, nothing, a_has_three, party_a, party_b, name_x}

@@ -1,9 +1,9 @@
 //! What follows a case that an input takes.
 ghost use Rattle.std.specs.Prelude.{◌≡◌, ◌≢◌, ◌<◌, ◌+ℤ◌, int_lt, pos, true, [], ◌∷◌, if◌then◌else◌, Some, length, IfOk};
 ghost use Rattle.std.specs.Result.{result_err};
-ghost use Rattle.collections.specs.Answers.{Aside};
-ghost use Rattle.evaluation.specs.Numbers.{all_fit, within};
-ghost use Rattle.evaluation.specs.Path.{waits_for};
+ghost use Rattle.contract.specs.Collections.Answers.{Aside};
+ghost use Rattle.semantics.specs.Evaluation.Numbers.{all_fit, within};
+ghost use Rattle.semantics.specs.Evaluation.Path.{waits_for};
 ghost use Rattle.semantics.specs.Applying.{taken, taken_numbers};
 ghost use Rattle.semantics.specs.Walk.{answer_of};
 ghost use Rattle.next_inputs.specs.Opening.{opening};
@@ -11,9 +11,8 @@ ghost use Rattle.next_inputs.specs.Behind.{IsRefusedBehind};
 ghost use Rattle.next_inputs.specs.OpeningSupport.{SettlesAnyhow, refused_unless};
 
 use crate::reduction::opening;
-use collections::{Memory, TryClone};
-use contract::{Input, Interval, SemFault, State};
-use evaluation::{Form, Parts, sum};
+use contract::{Input, Interval, Memory, SemFault, State, TryClone};
+use semantics::evaluation::{Form, Parts, sum};
 use semantics::{Log, take};
 use std::alloc::{AllocError, Global};
 

@@ -1,7 +1,7 @@
 //! What the cases of a contract offer.
 ghost use Rattle.std.specs.Prelude.{◌≡◌, length, IfOk};
-ghost use Rattle.evaluation.specs.Parts.{StandsWait, wait_tree};
-ghost use Rattle.evaluation.specs.Path.{waits_for};
+ghost use Rattle.semantics.specs.Evaluation.Parts.{StandsWait, wait_tree};
+ghost use Rattle.semantics.specs.Evaluation.Path.{waits_for};
 ghost use Rattle.next_inputs.specs.Claiming.{offer_of, offers_of};
 ghost use Rattle.next_inputs.specs.Offers.{AreOffers};
 
@@ -9,9 +9,8 @@ use crate::claiming::claims_of;
 use crate::offer::Offer;
 use crate::sharing::shares_of;
 use claims::first_come;
-use collections::{Items, Memory};
-use contract::{Bound, Interval, State};
-use evaluation::{Parts, Wait};
+use contract::{Bound, Interval, Items, Memory, State};
+use semantics::evaluation::{Parts, Wait};
 use std::alloc::Global;
 
 /// What each case of a contract that has settled offers to the next input, in a fixed interval: just the inputs that it

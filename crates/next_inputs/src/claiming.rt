@@ -1,14 +1,13 @@
 //! Which numbers the cases claim.
 ghost use Rattle.std.specs.Prelude.{◌≡◌, [], ◌∷◌, ◌++◌, IfOk, OnOk, if◌then◌else◌};
-ghost use Rattle.evaluation.specs.Parts.{StandsWait};
-ghost use Rattle.evaluation.specs.Path.{waits_for};
+ghost use Rattle.semantics.specs.Evaluation.Parts.{StandsWait};
+ghost use Rattle.semantics.specs.Evaluation.Path.{waits_for};
 ghost use Rattle.next_inputs.specs.Claiming.{range_of_deposit, ranges_of_notify, all_numbers, claims_for, claims_of_wait, AreClaims};
 
 use crate::lane::Lane;
 use claims::Claim;
-use collections::Memory;
-use contract::{Bound, Interval, State};
-use evaluation::{Parts, Wait};
+use contract::{Bound, Interval, Memory, State};
+use semantics::evaluation::{Parts, Wait};
 use std::alloc::Global;
 
 /// The numbers that each case of a contract stops, on its lane: those of the inputs that it takes, and all where a number

@@ -1,6 +1,6 @@
 //! What can be done with a transaction over an interval.
 ghost use Rattle.std.specs.Prelude.{◌≡◌, ◌↔◌, IfOk, IsTrue};
-ghost use Rattle.collections.specs.Answers.{AsideBy};
+ghost use Rattle.contract.specs.Collections.Answers.{AsideBy};
 ghost use Rattle.semantics.specs.Walk.{answer_of};
 ghost use Rattle.semantics.specs.Transaction.{trimmed};
 ghost use Rattle.next_inputs.specs.Opening.{opening, standing_at, OpeningLeads, AcceptsNoInputs};
@@ -9,9 +9,8 @@ ghost use Rattle.next_inputs.specs.Offers.{AreOffersAt, OffersWhatIsTaken};
 use crate::cases::offers;
 use crate::offer::Offer;
 use crate::reduction::{Opened, opening};
-use collections::Items;
-use contract::{Interval, SemFault, State};
-use evaluation::Parts;
+use contract::{Interval, Items, SemFault, State};
+use semantics::evaluation::Parts;
 use std::alloc::Global;
 
 /// What can be done with a contract over an interval.

@@ -1,6 +1,5 @@
 //! What a case offers.
-use collections::Items;
-use contract::Bound;
+use contract::{Bound, Items};
 
 /// What a case of a When offers to the next input (Marlowe specification version 3, "Apply cases"): the inputs that it
 /// takes, up to its account, party and token or its choice, which the case itself has.

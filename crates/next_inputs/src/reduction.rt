@@ -1,15 +1,14 @@
 //! Where a contract stands when the inputs of a transaction come.
 ghost use Rattle.std.specs.Prelude.{◌≡◌, ◌≢◌, ◌↔◌, IfOk, IfErr, IsTrue};
-ghost use Rattle.collections.specs.Answers.{AsideBy};
+ghost use Rattle.contract.specs.Collections.Answers.{AsideBy};
 ghost use Rattle.semantics.specs.Walk.{answer_of};
 ghost use Rattle.semantics.specs.Transaction.{begun};
 ghost use Rattle.next_inputs.specs.Opening.{opening, standing_at, OpeningLeads, AcceptsNoInputs};
 ghost use Rattle.next_inputs.specs.OpeningSupport.{untouched};
 
-use collections::Items;
-use contract::{Interval, Outcome, SemFault, State, TryClone};
-use evaluation::Parts;
+use contract::{Interval, Items, Outcome, SemFault, State, TryClone};
 use semantics::Steps;
+use semantics::evaluation::Parts;
 use std::alloc::Global;
 
 /// Where a contract stands when the inputs of a transaction come.

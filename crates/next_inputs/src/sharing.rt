@@ -6,8 +6,7 @@ ghost use Rattle.next_inputs.specs.Claiming.{put, AreShares, IsBy};
 
 use crate::lane::Lane;
 use claims::Claim;
-use collections::{Items, Memory};
-use contract::Bound;
+use contract::{Bound, Items, Memory};
 use std::alloc::Global;
 use std::mem;
 

@@ -2,7 +2,7 @@
 ghost use Rattle.std.specs.Prelude.{◌≡◌, ◌^◌, pos, ◌<ℤ◌, IfSome};
 ghost use Rattle.next_inputs.specs.Opening.{waits_until};
 
-use evaluation::{Form, Parts};
+use semantics::evaluation::{Form, Parts};
 
 /// The last moment at which the contract at a place waits, in POSIX milliseconds: none where it isn't a When. From the
 /// next on, its timeout continuation is gone on with.

@@ -1,9 +1,9 @@
 -- The inputs that apply where a contract waits, case by case.
 use Rattle.std.specs.Prelude.{ℕ, ℤ, List, Option}
-use Rattle.names.specs.declared.party.Party.{Party}
-use Rattle.names.specs.declared.token.Token.{Token}
-use Rattle.names.specs.declared.choice_id.ChoiceId.{ChoiceId}
-use Rattle.names.specs.declared.bound.Bound.{Bound}
+use Rattle.contract.specs.Names.declared.party.Party.{Party}
+use Rattle.contract.specs.Names.declared.token.Token.{Token}
+use Rattle.contract.specs.Names.declared.choice_id.ChoiceId.{ChoiceId}
+use Rattle.contract.specs.Names.declared.bound.Bound.{Bound}
 use Rattle.contract.specs.declared.fault.SemFault.{SemFault}
 
 -- what the case at an index takes, and why what follows is refused, if it is: a deposit into an account by a party of an

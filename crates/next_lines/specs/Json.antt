@@ -3,10 +3,10 @@ use Rattle.std.specs.Prelude.{ℕ, ℤ, pos, int_le, false, List, [], ◌∷◌,
 use Rattle.serde_json.specs.Data.{Data, null, boolean, string, array, object, no_members, member}
 use Rattle.serde_json.specs.View.{items_of}
 use Rattle.serde_json.specs.Written.{compact_text}
-use Rattle.names.specs.declared.party.Party.{Party}
-use Rattle.names.specs.declared.token.Token.{Token}
-use Rattle.names.specs.declared.choice_id.ChoiceId.{ChoiceId}
-use Rattle.names.specs.declared.bound.Bound.{Bound}
+use Rattle.contract.specs.Names.declared.party.Party.{Party}
+use Rattle.contract.specs.Names.declared.token.Token.{Token}
+use Rattle.contract.specs.Names.declared.choice_id.ChoiceId.{ChoiceId}
+use Rattle.contract.specs.Names.declared.bound.Bound.{Bound}
 use Rattle.contract.specs.declared.fault.SemFault.{SemFault}
 use Rattle.json_write_contracts.specs.WrittenNames.{two, three, four, six, number_json, wide_json, party_json, token_json, choice_id_json}
 use Rattle.json_write_outcomes.specs.WrittenOutcome.{payment_json}

@@ -1,12 +1,12 @@
 -- Worked rows of what is printed, computed on the definitions.
 use Rattle.std.specs.Prelude.{◌≡◌, ◌++◌, ℕ, ◌^◌, ℤ, pos, negsuc, true, false, List, [], ◌∷◌, Some, None, codes}
 use Rattle.serde_json.specs.Written.{compact_text}
-use Rattle.names.specs.declared.choice_id.ChoiceId.{ChoiceId}
-use Rattle.names.specs.declared.party.Party.{Party}
-use Rattle.names.specs.declared.party.Party.TheVariants.{Role}
-use Rattle.names.specs.declared.payee.Payee.TheVariants.{Party as ToParty}
-use Rattle.names.specs.declared.token.Token.{Token}
-use Rattle.names.specs.Equal.{ada}
+use Rattle.contract.specs.Names.declared.choice_id.ChoiceId.{ChoiceId}
+use Rattle.contract.specs.Names.declared.party.Party.{Party}
+use Rattle.contract.specs.Names.declared.party.Party.TheVariants.{Role}
+use Rattle.contract.specs.Names.declared.payee.Payee.TheVariants.{Party as ToParty}
+use Rattle.contract.specs.Names.declared.token.Token.{Token}
+use Rattle.contract.specs.Names.Equal.{ada}
 use Rattle.contract.specs.declared.fault.SemFault.TheVariants.{Ambiguous}
 use Rattle.contract.specs.declared.payment.Payment.{Payment}
 use Rattle.places.specs.declared.key.Key.TheVariants as keys

@@ -1,8 +1,8 @@
 -- What code tells, as the definitions have it.
 use Rattle.std.specs.Prelude.{ℕ, ◌^◌, ℤ, pos, ◌<ℤ◌, List, map}
 use Rattle.places.specs.declared.key.Key.{Key}
-use Rattle.names.specs.declared.party.Party.{Party}
-use Rattle.names.specs.declared.token.Token.{Token}
+use Rattle.contract.specs.Names.declared.party.Party.{Party}
+use Rattle.contract.specs.Names.declared.token.Token.{Token}
 use Rattle.next_lines.specs.declared.told.Deposit.{Deposit}
 use Rattle.next_lines.specs.declared.told.CaseTold.{CaseTold}
 use Rattle.next_lines.specs.declared.told.CaseTold.TheVariants as code

@@ -8,8 +8,7 @@ ghost use Rattle.next_lines.specs.Json.{range_json, warning_json};
 ghost use Rattle.next_lines.specs.Seen.{seen_warning};
 
 use crate::told::ToldWarning;
-use collections::Memory;
-use contract::{Bound, Payment};
+use contract::{Bound, Memory, Payment};
 use json::Writer;
 use json_write_contracts::{end_with_one, put_member};
 use json_write_outcomes::put_payment;

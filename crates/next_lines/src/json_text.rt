@@ -8,7 +8,7 @@ use crate::json_inputs::put_inputs;
 use crate::json_lists::put_list;
 use crate::terms::Flag;
 use crate::told::ToldHere;
-use collections::Memory;
+use contract::Memory;
 use json::Writer;
 use json_write_contracts::{put_amount, put_member};
 use places::put_place_json;

@@ -6,8 +6,7 @@ ghost use Rattle.next_lines.specs.Seen.{IsMoment, seen, seen_deposit, seen_case,
 use crate::pieces::{put_bytes, put_joined};
 use crate::told::{CaseTold, Deposit, ToldHere, ToldWarning};
 use crate::words::{deposit_text, leaving_line, payment_line, refused_text};
-use collections::{Items, Memory};
-use contract::{Bound, ChoiceId, Party, Payment, SemFault, Token};
+use contract::{Bound, ChoiceId, Items, Memory, Party, Payment, SemFault, Token};
 use json_write_contracts::term_text;
 use places::{Key, put_place};
 use std::alloc::Global;

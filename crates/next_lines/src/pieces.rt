@@ -2,7 +2,7 @@
 ghost use Rattle.std.specs.Prelude.{◌≡◌, ℕ, ◌++◌, List, flat_map, IfOk, OnOk, codes, string_bytes};
 ghost use Rattle.std.specs.List.{join_by};
 
-use collections::Memory;
+use contract::Memory;
 use std::alloc::Global;
 
 /// What has a text of its own.

@@ -5,8 +5,7 @@ ghost use Rattle.json_write_contracts.specs.Tokens.{Keeps, Puts};
 ghost use Rattle.json_write_contracts.specs.WrittenNames.{number_json};
 ghost use Rattle.next_lines.specs.Json.{refused_json};
 
-use collections::Memory;
-use contract::SemFault;
+use contract::{Memory, SemFault};
 use json::Writer;
 use json_write_contracts::Term;
 use marlowe_refusals::sem_fault_name;

@@ -1,6 +1,5 @@
 //! What is told of a contract: what its cases take, until when it waits, and what came on the way.
-use collections::Items;
-use contract::{Bound, ChoiceId, Party, Payment, SemFault, Token};
+use contract::{Bound, ChoiceId, Items, Party, Payment, SemFault, Token};
 use places::Key;
 
 /// A deposit into an account by a party, of an amount of a token in its smallest unit.

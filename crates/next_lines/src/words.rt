@@ -5,8 +5,7 @@ ghost use Rattle.next_lines.specs.Seen.{seen_deposit};
 
 use crate::pieces::Piece;
 use crate::told::Deposit;
-use collections::Memory;
-use contract::{Bound, Party, Payment, SemFault, Token};
+use contract::{Bound, Memory, Party, Payment, SemFault, Token};
 use json_write_contracts::term_text;
 use marlowe_refusals::sem_fault_name;
 use places::token_text;

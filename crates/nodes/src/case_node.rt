@@ -1,6 +1,6 @@
 //! Cases by numbers.
 use crate::cont::Cont;
-use collections::{Items, Memory, Same, TryClone};
+use names::collections::{Items, Memory, Same, TryClone};
 use names::{Bound, ChoiceId, Party, Token};
 
 /// A case of a When: what it waits for, and the continuation that is gone on with (Marlowe
@@ -56,8 +56,8 @@ impl Same for CaseNode {
 }
 
 impl PartialEq for CaseNode {
-    ghost use Rattle.collections.specs.Same.{same_by};
-    ghost use Rattle.collections.proofs.SameLaws.{same_by-partial};
+    ghost use Rattle.names.specs.Collections.Same.{same_by};
+    ghost use Rattle.names.proofs.FromCollections.SameLaws.{same_by-partial};
     ghost use Rattle.nodes.specs.contracts.case_node.CaseNode as it;
 
     ghost eq = { same_by it.the_row.coded };
@@ -70,7 +70,7 @@ impl PartialEq for CaseNode {
 }
 
 impl Eq for CaseNode {
-    ghost use Rattle.collections.proofs.SameLaws.{same_by-equiv};
+    ghost use Rattle.names.proofs.FromCollections.SameLaws.{same_by-equiv};
     ghost use Rattle.nodes.specs.contracts.case_node.CaseNode as it;
 
     ghost laws = { same_by-equiv it.the_row.coded };
@@ -79,7 +79,7 @@ impl Eq for CaseNode {
 #[derived]
 impl Hash for CaseNode {
     ghost use Rattle.std.specs.Hash.{same_Alike};
-    ghost use Rattle.collections.proofs.SameLaws.{same_by_decides};
+    ghost use Rattle.names.proofs.FromCollections.SameLaws.{same_by_decides};
     ghost use Rattle.nodes.specs.contracts.case_node.CaseNode as it;
 
     ghost respects_eq = { (same_Alike _ (same_by_decides it.the_row.coded)).fed };

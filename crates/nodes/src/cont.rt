@@ -1,5 +1,5 @@
 //! Numbers of continuations.
-use collections::{Memory, Same, TryClone};
+use names::collections::{Memory, Same, TryClone};
 
 /// The number of a continuation in a table.
 #[derive(Clone, Copy, Debug, PartialEq, Eq, PartialOrd, Ord, Hash, Drop)]

@@ -1,6 +1,6 @@
 //! Continuations by numbers.
 use crate::cont::Cont;
-use collections::{Items, Memory, Same, Text, TryClone};
+use names::collections::{Items, Memory, Same, Text, TryClone};
 use names::{Party, Payee, Token};
 
 /// A contract whose parts are numbers of a table (Marlowe specification version 3, "Contracts").
@@ -77,8 +77,8 @@ impl Same for ContNode {
 }
 
 impl PartialEq for ContNode {
-    ghost use Rattle.collections.specs.Same.{same_by};
-    ghost use Rattle.collections.proofs.SameLaws.{same_by-partial};
+    ghost use Rattle.names.specs.Collections.Same.{same_by};
+    ghost use Rattle.names.proofs.FromCollections.SameLaws.{same_by-partial};
     ghost use Rattle.nodes.specs.contracts.cont_node.ContNode as it;
 
     ghost eq = { same_by it.the_row.coded };
@@ -91,7 +91,7 @@ impl PartialEq for ContNode {
 }
 
 impl Eq for ContNode {
-    ghost use Rattle.collections.proofs.SameLaws.{same_by-equiv};
+    ghost use Rattle.names.proofs.FromCollections.SameLaws.{same_by-equiv};
     ghost use Rattle.nodes.specs.contracts.cont_node.ContNode as it;
 
     ghost laws = { same_by-equiv it.the_row.coded };
@@ -100,7 +100,7 @@ impl Eq for ContNode {
 #[derived]
 impl Hash for ContNode {
     ghost use Rattle.std.specs.Hash.{same_Alike};
-    ghost use Rattle.collections.proofs.SameLaws.{same_by_decides};
+    ghost use Rattle.names.proofs.FromCollections.SameLaws.{same_by_decides};
     ghost use Rattle.nodes.specs.contracts.cont_node.ContNode as it;
 
     ghost respects_eq = { (same_Alike _ (same_by_decides it.the_row.coded)).fed };

@@ -1,5 +1,5 @@
 //! Nodes with their heights.
-use collections::{Memory, Same, TryClone};
+use names::collections::{Memory, Same, TryClone};
 
 /// A node with its height: 0 for a leaf, else one more than the greatest height that it names.
 #[derive(PartialEq, Eq, Hash, Drop)]

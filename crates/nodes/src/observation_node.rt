@@ -1,6 +1,6 @@
 //! Observations by numbers.
-use collections::{Memory, Same, TryClone};
 use names::ChoiceId;
+use names::collections::{Memory, Same, TryClone};
 
 /// An observation whose operands are numbers of a table (Marlowe specification version 3, "Values and
 /// observations").

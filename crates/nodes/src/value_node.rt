@@ -1,5 +1,5 @@
 //! Values by numbers.
-use collections::{Memory, Same, Text, TryClone};
+use names::collections::{Memory, Same, Text, TryClone};
 use names::{ChoiceId, Party, Token};
 
 /// A value whose operands are numbers of a table (Marlowe specification version 3, "Values and

@@ -7,11 +7,9 @@ ghost use Rattle.places.specs.Places.{keys_of};
 ghost use Rattle.note_lines.specs.NoteLines.{source_json, note_line, once_line, notes_lines};
 
 use analysis_spec::PathStep;
-use collections::Memory;
-use contract::Contract;
+use contract::{Contract, Memory, Party};
 use contract_notes::{Note, Remark, Source};
 use json_write_contracts::term_text;
-use names::Party;
 use places::{keys_of, put_place};
 use std::alloc::Global;
 

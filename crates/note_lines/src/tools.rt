@@ -7,12 +7,10 @@ ghost use Rattle.json_write_contracts.specs.Tokens.{Puts};
 ghost use Rattle.json_write_contracts.specs.WrittenNames.{party_json};
 ghost use Rattle.note_lines.specs.NoteLines.{source_json, remark_word, source_of, note_json, notes_json};
 
-use collections::Memory;
-use contract::Contract;
+use contract::{Contract, Memory, Party};
 use contract_notes::{Note, Remark, Source};
 use json::Writer;
 use json_write_contracts::{put_choice_id, put_party, put_text, word};
-use names::Party;
 use places::{keys_of, put_place_json};
 use std::alloc::Global;
 

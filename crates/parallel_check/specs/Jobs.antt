@@ -1,6 +1,6 @@
 -- What is answered to many jobs, each a transaction with its resolution.
 use Rattle.std.specs.Prelude.{List, map}
-use Rattle.eutxo_types.specs.declared.tx.Tx.{Tx}
+use Rattle.eutxo.specs.EutxoTypes.declared.tx.Tx.{Tx}
 use Rattle.eutxo.specs.declared.resolved.Resolved.{Resolved}
 use Rattle.eutxo.specs.Asked.{Judges}
 use Rattle.eutxo.specs.Checks.{CheckOf, check_of}

@@ -1,7 +1,7 @@
 //! What one worker gets.
 ghost use Rattle.std.specs.Prelude.{◌≡◌, ◌++◌, ◌∷◌, [], IfOk, OnOk, MatchOption, length};
 
-use collections::Memory;
+use eutxo::Memory;
 use std::alloc::Global;
 use std::collections::VecDeque;
 use std::marker::Model;

@@ -3,7 +3,7 @@ ghost use Rattle.std.specs.Prelude.{◌≡◌, ◌<◌, ◌+◌, ◌∷◌, ◌+
 ghost use Rattle.parallel_check.specs.DealingSupport.{IsDealt, AllOk};
 
 use crate::batch::Batch;
-use collections::Memory;
+use eutxo::Memory;
 use std::alloc::Global;
 
 // So many batches with nothing in them, each with room for so many items.

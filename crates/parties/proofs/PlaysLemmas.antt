@@ -6,24 +6,24 @@ use Rattle.std.proofs.Math.Seq.{drop-append_seam}
 use Rattle.std.proofs.lemmas.List.Elements.{All-nil, All-cons, All-append}
 use Rattle.std.specs.Prelude.{◌≢◌, ℤ, Result, Ok, Err, OnErr, IfSome, if◌then◌else◌, slice_get, option_to_list}
 use Rattle.std.specs.List.{All, Contains}
-use Rattle.collections.specs.Answers.{Aside}
+use Rattle.contract.specs.Collections.Answers.{Aside}
 use Rattle.contract.specs.declared.input.Input.{Input}
-use Rattle.eutxo_types.specs.declared.output_ref.OutputRef.{OutputRef}
-use Rattle.eutxo_types.specs.declared.tx.Tx.{Tx}
-use Rattle.ledger.specs.declared.ask.Ask.{Ask}
-use Rattle.ledger.specs.declared.call.Call.{Call}
-use Rattle.ledger.specs.declared.call.Call.TheVariants as on
-use Rattle.ledger.specs.declared.call.Reply.{Reply}
-use Rattle.ledger.specs.declared.call.Reply.TheVariants as replies
-use Rattle.ledger.specs.declared.look.Look.{Look}
-use Rattle.builder_spec.specs.declared.fault.BuildFault.{BuildFault}
-use Rattle.builder_spec.specs.declared.fault.BuildFault.TheVariants as causes
+use Rattle.hub.specs.EutxoTypes.declared.output_ref.OutputRef.{OutputRef}
+use Rattle.hub.specs.EutxoTypes.declared.tx.Tx.{Tx}
+use Rattle.hub.specs.Ledger.declared.ask.Ask.{Ask}
+use Rattle.hub.specs.Ledger.declared.call.Call.{Call}
+use Rattle.hub.specs.Ledger.declared.call.Call.TheVariants as on
+use Rattle.hub.specs.Ledger.declared.call.Reply.{Reply}
+use Rattle.hub.specs.Ledger.declared.call.Reply.TheVariants as replies
+use Rattle.hub.specs.Ledger.declared.look.Look.{Look}
+use Rattle.hub.specs.LedgerSpec.BuilderSpec.declared.fault.BuildFault.{BuildFault}
+use Rattle.hub.specs.LedgerSpec.BuilderSpec.declared.fault.BuildFault.TheVariants as causes
 use Rattle.plans.specs.declared.intent.Intent.TheVariants.{Step, Steps, Claim, Round, Advance}
 use Rattle.hub.specs.declared.answer.Answer.{Answer}
 use Rattle.hub.specs.Seats.{SeatRecord, ReceiptRecord, seat_record, answer_of, IsReply, WasTold}
 use Rattle.hub.specs.Session.{Opened}
-use Rattle.ledger_spec.specs.Replay.{world}
-use Rattle.ledger_spec.specs.Views.{look}
+use Rattle.hub.specs.LedgerSpec.Replay.{world}
+use Rattle.hub.specs.LedgerSpec.Views.{look}
 use Rattle.parties.specs.Plays.{PlayedIntent, PlayedPlan, step_ask, claim_ask, step_made, steps_made, claim_made, offered_by, parts_of}
 use Rattle.parties.specs.Plays.{AreLooks, WereShown, LooksOrHandsIn, IsOf, IsOfPlan, AreOf, AreOfPlan, IsWithin, added, receipt_of}
 use Rattle.parties.specs.Plays.{asks_of, by_first, IsLeftOut}

@@ -3,19 +3,19 @@ use Rattle.std.specs.Prelude.{◌≡◌, ℕ, ◌≤◌, ◌⊎◌, if◌then◌
 use Rattle.std.specs.List.{Any}
 use Rattle.contract.specs.declared.input.Input.{Input}
 use Rattle.contract.specs.declared.interval.Interval.{Interval}
-use Rattle.eutxo_types.specs.declared.output_ref.OutputRef.{OutputRef}
-use Rattle.eutxo_types.specs.declared.tx.Tx.{Tx}
-use Rattle.ledger.specs.declared.ask.Ask.{Ask}
-use Rattle.ledger.specs.declared.call.Call.{Call}
-use Rattle.ledger.specs.declared.call.Call.TheVariants as on
-use Rattle.ledger.specs.declared.call.Reply.TheVariants as replies
-use Rattle.ledger.specs.declared.look.Look.{Look}
-use Rattle.ledger.specs.declared.look.Unspent.{Unspent}
-use Rattle.builder_spec.specs.declared.fault.BuildFault.{BuildFault}
-use Rattle.builder_spec.specs.Built.{build_answer}
-use Rattle.builder_spec.specs.Requests.{Part, StepRequest, request, StepsRequest, steps_request, ClaimRequest, claim_request}
-use Rattle.builder_spec.specs.Parts.{hinders_steps, layout_steps, hinders_step, layout_step}
-use Rattle.builder_spec.specs.Claims.{hinders_claim, layout_claim}
+use Rattle.hub.specs.EutxoTypes.declared.output_ref.OutputRef.{OutputRef}
+use Rattle.hub.specs.EutxoTypes.declared.tx.Tx.{Tx}
+use Rattle.hub.specs.Ledger.declared.ask.Ask.{Ask}
+use Rattle.hub.specs.Ledger.declared.call.Call.{Call}
+use Rattle.hub.specs.Ledger.declared.call.Call.TheVariants as on
+use Rattle.hub.specs.Ledger.declared.call.Reply.TheVariants as replies
+use Rattle.hub.specs.Ledger.declared.look.Look.{Look}
+use Rattle.hub.specs.Ledger.declared.look.Unspent.{Unspent}
+use Rattle.hub.specs.LedgerSpec.BuilderSpec.declared.fault.BuildFault.{BuildFault}
+use Rattle.hub.specs.LedgerSpec.BuilderSpec.Built.{build_answer}
+use Rattle.hub.specs.LedgerSpec.BuilderSpec.Requests.{Part, StepRequest, request, StepsRequest, steps_request, ClaimRequest, claim_request}
+use Rattle.hub.specs.LedgerSpec.BuilderSpec.Parts.{hinders_steps, layout_steps, hinders_step, layout_step}
+use Rattle.hub.specs.LedgerSpec.BuilderSpec.Claims.{hinders_claim, layout_claim}
 use Rattle.plans.specs.declared.intent.Intent.{Intent}
 use Rattle.plans.specs.declared.intent.Intent.TheVariants.{Step, Steps, Claim, Round, Advance}
 use Rattle.plans.specs.declared.plan.Plan.{Plan}

@@ -1,13 +1,13 @@
 -- No reader needs this file: what holds while a party plays, the invariants behind the clauses.
 use Rattle.std.specs.Prelude.{◌≡◌, ℕ, ◌<◌, ◌⊎◌, if◌then◌else◌, List, [], ◌∷◌, ◌++◌, map, length, Option, Some, None, Ok, Err}
-use Rattle.eutxo_types.specs.declared.tx.Tx.{Tx}
-use Rattle.ledger.specs.declared.ask.Ask.{Ask}
-use Rattle.ledger.specs.declared.call.Call.{Call}
-use Rattle.ledger.specs.declared.call.Call.TheVariants as on
-use Rattle.ledger.specs.declared.call.Reply.{Reply}
-use Rattle.ledger.specs.declared.call.Reply.TheVariants as replies
-use Rattle.ledger.specs.declared.look.Look.{Look}
-use Rattle.builder_spec.specs.declared.fault.BuildFault.{BuildFault}
+use Rattle.hub.specs.EutxoTypes.declared.tx.Tx.{Tx}
+use Rattle.hub.specs.Ledger.declared.ask.Ask.{Ask}
+use Rattle.hub.specs.Ledger.declared.call.Call.{Call}
+use Rattle.hub.specs.Ledger.declared.call.Call.TheVariants as on
+use Rattle.hub.specs.Ledger.declared.call.Reply.{Reply}
+use Rattle.hub.specs.Ledger.declared.call.Reply.TheVariants as replies
+use Rattle.hub.specs.Ledger.declared.look.Look.{Look}
+use Rattle.hub.specs.LedgerSpec.BuilderSpec.declared.fault.BuildFault.{BuildFault}
 use Rattle.plans.specs.declared.intent.Intent.TheVariants.{Step, Steps, Claim, Round, Advance}
 use Rattle.hub.specs.declared.answer.Answer.{Answer}
 use Rattle.hub.specs.Seats.{SeatRecord, ReceiptRecord, seat_record}

@@ -1,7 +1,5 @@
 //! What a party does next.
-use eutxo::Checked;
-use hub::Call;
-use roles::Published;
+use hub::{Call, Checked, Published};
 
 /// One thing that a party does by its seat.
 #[derive(Drop)]

@@ -1,6 +1,6 @@
 //! What an intent asks for, and what is built of what it is shown.
 ghost use Rattle.std.specs.Prelude.{◌≡◌, ◌≢◌, map, Err, IfOk};
-ghost use Rattle.ledger.specs.declared.call.Reply.TheVariants as replies;
+ghost use Rattle.hub.specs.Ledger.declared.call.Reply.TheVariants as replies;
 ghost use Rattle.parties.specs.Plays.{step_ask, claim_ask, step_made, steps_made, claim_made, offered_by, parts_of, asks_of, made_of};
 ghost use Rattle.parties.specs.PlaysSupport.{AreShown, replies_of};
 
@@ -8,13 +8,9 @@ use builder::{
     Ask, BuildFault, Look, Part, PayoutLock, Unspent, build_claim, build_step, build_steps,
     resolve_parts,
 };
-use collections::{Bytes, Items, Memory, Text, TryClone};
-use contract::{Input, Interval};
-use eutxo::{Checked, check_owned};
-use eutxo_types::{OutputRef, Tx};
-use hub::{Receipt, Reply, Session};
+use contract::{Bytes, Input, Interval, Items, Memory, Text, TryClone};
+use hub::{Checked, OutputRef, Published, Receipt, Reply, Session, Tx, check_owned};
 use plans::{Intent, Plan};
-use roles::Published;
 use std::alloc::{AllocError, Global};
 use std::marker::Model;
 
@@ -26,8 +22,8 @@ pub(crate) struct Shown<'a> {
 
 impl<'a> Model for Shown<'a> {
     ghost use Rattle.std.specs.Coded.{codes};
-    ghost use Rattle.ledger.specs.contracts.look.Look as looks;
-    ghost use Rattle.ledger.specs.declared.look.Look.{Look};
+    ghost use Rattle.hub.specs.Ledger.contracts.look.Look as looks;
+    ghost use Rattle.hub.specs.Ledger.declared.look.Look.{Look};
 
     ghost Value = { Look };
 

@@ -2,7 +2,7 @@
 ghost use Rattle.std.specs.Prelude.{◌≡◌, map, IfOk};
 
 use builder::BuildFault;
-use collections::Memory;
+use contract::Memory;
 use hub::{Receipt, Session};
 use std::alloc::Global;
 

@@ -15,8 +15,14 @@ mod party;
 mod turns;
 mod watch;
 
-pub use hub::{Call, Chain, GenesisFault, Hub, Receipt, Reply, Seat, Session};
+pub use builder::{Ask, BuildFault, Look, build_start};
+pub use hub::{
+    Bundle, Call, Chain, Checked, Closed, CompileFault, Entry, Gate, GenesisFault, Hub, Lock,
+    Memory, NoGate, Opening, Output, OutputRef, Published, Receipt, Redeemer, Reply, Resolved,
+    Scripts, Seat, SeatAtHub, Session, Spend, StepRecord, Tx, TxFault, Validator, Verdict,
+    check_all, check_owned, publish,
+};
 pub use left_out::LeftOut;
 pub use party::Party;
-pub use plans::{Intent, Plan};
+pub use plans::{Funds, Intent, NamedContract, NamedThread, Plan, Scenario};
 pub use watch::{NoWatch, Watch};

@@ -5,10 +5,8 @@ ghost use Rattle.parties.specs.PlaysSupport.{HasRoom, call_of};
 
 use crate::acts::Act;
 use crate::watch::Watch;
-use collections::{Bytes, Memory};
-use eutxo_types::OutputRef;
-use hub::{Hub, Receipt, Seat, Session};
-use parallel_check::NoGate;
+use contract::{Bytes, Memory};
+use hub::{Hub, NoGate, OutputRef, Receipt, Seat, Session};
 use plans::Plan;
 use std::alloc::Global;
 use std::sync::Wait;

@@ -1,8 +1,8 @@
 //! Turns: to look, to build on it, and to hand it in.
 ghost use Rattle.std.specs.Prelude.{◌≡◌, ◌≤◌, true, length, map, slice_get, Some, if◌then◌else◌, IfOk, IfSome, MatchResult, OnOk, OnErr};
 ghost use Rattle.std.specs.List.{Contains};
-ghost use Rattle.ledger.specs.declared.call.Call.TheVariants as on;
-ghost use Rattle.eutxo_types.specs.declared.tx.Tx.{Tx};
+ghost use Rattle.hub.specs.Ledger.declared.call.Call.TheVariants as on;
+ghost use Rattle.hub.specs.EutxoTypes.declared.tx.Tx.{Tx};
 ghost use Rattle.parties.specs.Plays.{IsLeftOut, added, asks_of};
 ghost use Rattle.parties.specs.PlaysSupport.{AreShown, handed, HandsIn, LeavesOut, call_of};
 ghost use Rattle.parties.specs.PlaysSupport.{WasNoted, AtMostNoted, Went, WentNoted, WasShown};
@@ -13,9 +13,8 @@ use crate::left_out::{LeftOut, left_out};
 use crate::means::Means;
 use crate::watch::Watch;
 use builder::BuildFault;
-use collections::{Bytes, Memory, TryClone};
-use eutxo_types::{OutputRef, Tx, TxFault};
-use hub::{Call, Receipt, Reply, Seat, Session};
+use contract::{Bytes, Memory, TryClone};
+use hub::{Call, OutputRef, Receipt, Reply, Seat, Session, Tx, TxFault};
 use plans::{Intent, Plan};
 use std::alloc::Global;
 use std::sync::Wait;

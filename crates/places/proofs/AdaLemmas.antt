@@ -5,9 +5,9 @@ use Rattle.std.specs.declared.cmp.Ordering.{Ordering}
 use Rattle.std.specs.declared.cmp.Ordering.TheVariants.{Less, Equal, Greater}
 use Rattle.std.specs.Ordering.{is_eq, ordering_then}
 use Rattle.std.proofs.lemmas.Bool.Decides.{Decides-eqb}
-use Rattle.names.specs.declared.token.Token.{Token}
-use Rattle.names.specs.Orders.{bytes_cmp}
-use Rattle.names.specs.Equal.{is_ada}
+use Rattle.contract.specs.Names.declared.token.Token.{Token}
+use Rattle.contract.specs.Names.Orders.{bytes_cmp}
+use Rattle.contract.specs.Names.Equal.{is_ada}
 
 is_empty : (xs : List ℕ) (b : Bool) → b ≡ (length xs == 0) → b ≡ is_eq (bytes_cmp xs [])
 is_empty [] b e = e

@@ -1,6 +1,6 @@
 -- Worked rows of what is printed, computed on the definitions.
 use Rattle.std.specs.Prelude.{◌≡◌, ℕ, pos, List, [], ◌∷◌, codes}
-use Rattle.names.specs.Equal.{ada}
+use Rattle.contract.specs.Names.Equal.{ada}
 use Rattle.contract.specs.Tree.{notify, true_obs, ContractTree, close, when, assert, no_cases, case_then}
 use Rattle.analysis_spec.specs.declared.path.PathStep.{PathStep}
 use Rattle.analysis_spec.specs.declared.path.PathStep.TheVariants.{TimeoutContinuation, Case, Action}

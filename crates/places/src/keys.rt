@@ -6,8 +6,7 @@ ghost use Rattle.places.specs.Places.{step_keys, form_key, action_key, case_key,
 use crate::key::Key;
 use analysis_spec::PathStep;
 use analysis_walk::part_behind;
-use collections::Memory;
-use contract::{Action, Case, Contract};
+use contract::{Action, Case, Contract, Memory};
 use std::alloc::Global;
 
 /// The keys of a path's steps alone: of the empty path there is none.

@@ -4,7 +4,7 @@ ghost use Rattle.json_write_contracts.specs.Tokens.{Keeps, Puts};
 ghost use Rattle.places.specs.Texts.{key_text, place_text, key_json, place_json};
 
 use crate::key::{Key, key_word};
-use collections::Memory;
+use contract::Memory;
 use json::Writer;
 use json_write_contracts::word;
 use std::alloc::Global;

@@ -1,14 +1,12 @@
 //! Names of alarms and of warnings, and tokens, as they are printed.
 ghost use Rattle.std.specs.Prelude.{◌≡◌, IfOk, string_bytes};
-ghost use Rattle.names.specs.Equal.{is_ada};
+ghost use Rattle.contract.specs.Names.Equal.{is_ada};
 ghost use Rattle.analysis_spec.specs.Promises.{kind_of};
 ghost use Rattle.places.specs.Texts.{kind_name, token_text};
 
 use analysis_spec::AlarmKind;
-use collections::Memory;
-use contract::Warning;
+use contract::{Memory, Token, Warning};
 use json_write_contracts::term_text;
-use names::Token;
 use replay::kind_of;
 use std::alloc::Global;
 

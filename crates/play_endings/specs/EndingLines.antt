@@ -1,11 +1,11 @@
 -- The line or the object of each intent of a plan.
 use Rattle.std.specs.Prelude.{ℕ, ◌+◌, List, [], ◌∷◌, ◌++◌, slice_get, Option, Some, None, codes, decimal}
-use Rattle.plans.specs.declared.intent.Intent.{Intent}
-use Rattle.plans.specs.declared.scenario.NamedContract.{NamedContract}
-use Rattle.plans.specs.declared.scenario.NamedThread.{NamedThread}
-use Rattle.play_notes.specs.Intents.{quoted, intent_text}
-use Rattle.step_notes.specs.declared.spelling.Spelling.{Spelling}
-use Rattle.step_notes.specs.declared.spelling.Spelling.TheVariants.{Lines, Objects}
+use Rattle.play_objects.specs.Plans.declared.intent.Intent.{Intent}
+use Rattle.play_objects.specs.Plans.declared.scenario.NamedContract.{NamedContract}
+use Rattle.play_objects.specs.Plans.declared.scenario.NamedThread.{NamedThread}
+use Rattle.play_objects.specs.PlayNotes.Intents.{quoted, intent_text}
+use Rattle.play_objects.specs.StepNotes.declared.spelling.Spelling.{Spelling}
+use Rattle.play_objects.specs.StepNotes.declared.spelling.Spelling.TheVariants.{Lines, Objects}
 use Rattle.play_objects.specs.IntentObjects.{intent_members}
 use Rattle.play_endings.specs.declared.ending.Ending.{Ending}
 use Rattle.play_endings.specs.declared.ending.Ending.TheVariants.{Done, NotBuilt, NothingToClaim, Refused, GivenUp, PoolFull, RefusedInRound, Pooled, Backward, Stopped}

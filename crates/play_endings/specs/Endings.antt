@@ -1,16 +1,16 @@
 -- HOW EACH INTENT OF A PLAN ENDED, by the entries of the plan's seat, in order, and by what its party left out.
 use Rattle.std.specs.Prelude.{ℕ, zero, suc, ◌+◌, ◌-◌, ◌==◌, nat_lt, Bool, true, false, ◌&&◌, if◌then◌else◌, List, [], ◌∷◌, ◌++◌, length, slice_get, Option, Some, None}
 use Rattle.contract.specs.declared.input.Input.{Input}
-use Rattle.eutxo_types.specs.declared.fault.TxFault.{TxFault}
-use Rattle.eutxo_types.specs.declared.fault.TxFault.TheVariants.{NotUnspent}
-use Rattle.eutxo_types.specs.declared.verdict.Verdict.{Verdict}
-use Rattle.eutxo_types.specs.declared.verdict.Verdict.TheVariants as verdicts
+use Rattle.ledger.specs.EutxoTypes.declared.fault.TxFault.{TxFault}
+use Rattle.ledger.specs.EutxoTypes.declared.fault.TxFault.TheVariants.{NotUnspent}
+use Rattle.ledger.specs.EutxoTypes.declared.verdict.Verdict.{Verdict}
+use Rattle.ledger.specs.EutxoTypes.declared.verdict.Verdict.TheVariants as verdicts
 use Rattle.ledger.specs.declared.call.Entry.{Entry}
 use Rattle.ledger.specs.declared.call.Reply.{Reply}
 use Rattle.ledger.specs.declared.call.Reply.TheVariants as replies
 use Rattle.ledger.specs.declared.call.Ticketed.{Ticketed}
-use Rattle.plans.specs.declared.intent.Intent.{Intent}
-use Rattle.plans.specs.declared.intent.Intent.TheVariants.{Claim}
+use Rattle.play_objects.specs.Plans.declared.intent.Intent.{Intent}
+use Rattle.play_objects.specs.Plans.declared.intent.Intent.TheVariants.{Claim}
 use Rattle.play_endings.specs.declared.ending.Ending.{Ending}
 use Rattle.play_endings.specs.declared.ending.LeftIntent.{LeftIntent}
 use Rattle.play_endings.specs.declared.ending.Ending.TheVariants.{Done, NotBuilt, NothingToClaim, Refused, GivenUp, PoolFull, RefusedInRound, Pooled, Backward, Stopped}

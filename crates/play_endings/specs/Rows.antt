@@ -1,15 +1,15 @@
 -- Worked rows, computed on the definitions, whatever was called and shown.
 use Rattle.std.specs.Prelude.{◌≡◌, ℕ, List, true, false, [], ◌∷◌, map, Some, codes, pos}
 use Rattle.contract.specs.declared.interval.Interval.{Interval}
-use Rattle.eutxo_types.specs.declared.fault.TxFault.TheVariants.{NotUnspent, OutsideInterval}
-use Rattle.eutxo_types.specs.declared.verdict.Verdict.TheVariants as verdicts
+use Rattle.ledger.specs.EutxoTypes.declared.fault.TxFault.TheVariants.{NotUnspent, OutsideInterval}
+use Rattle.ledger.specs.EutxoTypes.declared.verdict.Verdict.TheVariants as verdicts
 use Rattle.ledger.specs.declared.call.Call.{Call}
 use Rattle.ledger.specs.declared.call.Entry.{Entry}
 use Rattle.ledger.specs.declared.call.Reply.{Reply}
 use Rattle.ledger.specs.declared.call.Reply.TheVariants as replies
 use Rattle.ledger.specs.declared.look.Look.{Look}
-use Rattle.plans.specs.declared.intent.Intent.{Intent}
-use Rattle.plans.specs.declared.intent.Intent.TheVariants as intents
+use Rattle.play_objects.specs.Plans.declared.intent.Intent.{Intent}
+use Rattle.play_objects.specs.Plans.declared.intent.Intent.TheVariants as intents
 use Rattle.play_endings.specs.declared.ending.Ending.{Ending}
 use Rattle.play_endings.specs.declared.ending.Ending.TheVariants as ends
 use Rattle.play_endings.specs.declared.ending.LeftIntent.{LeftIntent}

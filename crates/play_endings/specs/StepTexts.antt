@@ -5,14 +5,14 @@ use Rattle.contract.specs.declared.interval.Interval.{Interval}
 use Rattle.ledger.specs.declared.call.Reply.{Reply}
 use Rattle.ledger.specs.declared.call.Reply.TheVariants as replies
 use Rattle.ledger.specs.declared.look.ThreadOutput.{ThreadOutput}
-use Rattle.plans.specs.declared.intent.Intent.{Intent}
-use Rattle.plans.specs.declared.intent.Intent.TheVariants.{Step, Steps}
-use Rattle.plans.specs.declared.scenario.NamedThread.{NamedThread}
-use Rattle.step_notes.specs.declared.spelling.Spelling.{Spelling}
-use Rattle.step_notes.specs.declared.spelling.Spelling.TheVariants.{Lines, Objects}
-use Rattle.step_notes.specs.Steps.{step_text}
-use Rattle.play_notes.specs.Intents.{thread_named}
-use Rattle.play_notes.specs.Notes.{put_behind}
+use Rattle.play_objects.specs.Plans.declared.intent.Intent.{Intent}
+use Rattle.play_objects.specs.Plans.declared.intent.Intent.TheVariants.{Step, Steps}
+use Rattle.play_objects.specs.Plans.declared.scenario.NamedThread.{NamedThread}
+use Rattle.play_objects.specs.StepNotes.declared.spelling.Spelling.{Spelling}
+use Rattle.play_objects.specs.StepNotes.declared.spelling.Spelling.TheVariants.{Lines, Objects}
+use Rattle.play_objects.specs.StepNotes.Steps.{step_text}
+use Rattle.play_objects.specs.PlayNotes.Intents.{thread_named}
+use Rattle.play_objects.specs.PlayNotes.Notes.{put_behind}
 use Rattle.play_endings.specs.declared.ending.Ending.{Ending}
 use Rattle.play_endings.specs.declared.ending.Ending.TheVariants.{Done}
 use Rattle.play_endings.specs.Endings.{PlacedEntry, EndedAt}

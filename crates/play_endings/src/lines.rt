@@ -4,14 +4,12 @@ ghost use Rattle.play_endings.specs.EndingLines as told;
 ghost use Rattle.play_endings.specs.EndingLines.{ending_text, at_entry, ending_members, ending_line, ending_object, ending_by, line_of, ending_lines, plan_text};
 
 use crate::ending::{Ended, Ending};
-use collections::{Memory, Text};
-use json_write_contracts::term_text;
-use plans::{Intent, NamedContract, NamedThread};
-use play_notes::intent_text;
-use play_objects::intent_members;
+use contract::{Memory, Text};
+use play_objects::{
+    Intent, NamedContract, NamedThread, Spelling, intent_members, intent_text, term_text,
+};
 use std::alloc::Global;
 use std::fmt::Write;
-use step_notes::Spelling;
 
 pub(crate) fn intent_at(
     intents: &[Intent<usize, usize>],

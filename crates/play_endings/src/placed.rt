@@ -2,7 +2,7 @@
 ghost use Rattle.std.specs.Prelude.{◌≡◌, IfOk};
 ghost use Rattle.play_endings.specs.Endings as told;
 
-use collections::Memory;
+use contract::Memory;
 use ledger::Entry;
 use std::alloc::Global;
 use std::marker::Model;

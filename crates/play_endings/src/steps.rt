@@ -6,13 +6,10 @@ ghost use Rattle.play_endings.specs.StepTexts.{shown_text, thread_text, step_hea
 use crate::ending::{Ended, Ending};
 use crate::lines::intent_at;
 use crate::placed::Placed;
-use collections::{Items, Memory};
-use contract::{Input, Interval};
+use contract::{Input, Interval, Items, Memory};
 use ledger::{Reply, ThreadOutput};
-use plans::{Intent, NamedThread};
-use play_notes::{put_behind, thread_name};
+use play_objects::{Intent, NamedThread, Spelling, Step, put_behind, step_text, thread_name};
 use std::alloc::Global;
-use step_notes::{Spelling, Step, step_text};
 
 // Of a thread that a look showed.
 fn thread_text(

@@ -3,9 +3,8 @@ ghost use Rattle.std.specs.Prelude.{◌≡◌, ◌++◌, IfOk, OnOk};
 ghost use Rattle.play_endings.specs.Endings as told;
 ghost use Rattle.play_endings.specs.Endings.{taken_by, is_accepted};
 
-use collections::Memory;
-use eutxo_types::Verdict;
-use ledger::{Entry, Reply, Ticketed};
+use contract::Memory;
+use ledger::{Entry, Reply, Ticketed, Verdict};
 use std::alloc::Global;
 
 /// A transaction that a round took out of the pool.

@@ -6,10 +6,9 @@ ghost use Rattle.play_endings.specs.Endings.{TRIES, next_at, refused_at, handed,
 use crate::ending::{Ended, Ending, LeftIntent, settled_ending};
 use crate::placed::Placed;
 use crate::taken::Taken;
-use collections::Memory;
-use eutxo_types::TxFault;
-use ledger::Reply;
-use plans::Intent;
+use contract::Memory;
+use ledger::{Reply, TxFault};
+use play_objects::Intent;
 use std::alloc::Global;
 
 // How often an intent is tried again where another was faster.

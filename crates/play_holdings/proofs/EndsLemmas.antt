@@ -2,10 +2,10 @@
 use Rattle.std.proofs.Common.{◌≡◌, ℕ, ◌+◌, Bool, true, false, cond, List, [], ◌∷◌, ◌++◌, Option, Some, None, length, refl, sym, ◌∙◌, ap, subst, arith}
 use Rattle.std.specs.Prelude.{is_some}
 use Rattle.std.specs.Map.{lookup}
-use Rattle.eutxo_types.specs.contracts.output_ref.OutputRefPartialEq.TheImpl.{ghosts}
-use Rattle.eutxo_types.specs.declared.output_ref.OutputRef.{OutputRef}
-use Rattle.eutxo_types.specs.declared.output_ref.OutputRef.TheVariants.{Genesis, Made}
-use Rattle.eutxo_types.specs.Parts.{same_ref}
+use Rattle.eutxo.specs.EutxoTypes.contracts.output_ref.OutputRefPartialEq.TheImpl.{ghosts}
+use Rattle.eutxo.specs.EutxoTypes.declared.output_ref.OutputRef.{OutputRef}
+use Rattle.eutxo.specs.EutxoTypes.declared.output_ref.OutputRef.TheVariants.{Genesis, Made}
+use Rattle.eutxo.specs.EutxoTypes.Parts.{same_ref}
 use Rattle.eutxo.proofs.SameRefLaws.{same_ref_so}
 use Rattle.play_holdings.specs.Holdings.{ends_at, thread_from}
 use Rattle.play_holdings.specs.SumsSupport.{or_place}

@@ -6,9 +6,9 @@ use Rattle.std.specs.Cmp.{IsTotalOrder, on_total, then_total, nat_cmp_total}
 use Rattle.std.specs.Ordering.{nat_cmp, ordering_then}
 use Rattle.std.specs.declared.cmp.Ordering.{Ordering}
 use Rattle.std.specs.declared.cmp.Ordering.TheVariants.{Less, Equal, Greater}
-use Rattle.names.specs.Orders.{bytes_cmp, token_cmp}
-use Rattle.names.specs.Totals.{bytes_total, token_total}
-use Rattle.names.proofs.Exact.{bytes_exact, token_exact}
+use Rattle.eutxo.specs.Names.Orders.{bytes_cmp, token_cmp}
+use Rattle.eutxo.specs.Names.Totals.{bytes_total, token_total}
+use Rattle.eutxo.proofs.FromNames.Exact.{bytes_exact, token_exact}
 use Rattle.play_holdings.specs.declared.holder.Holder.{Holder}
 use Rattle.play_holdings.specs.declared.holder.Holder.TheVariants.{Address, Payout, Thread, Elsewhere}
 use Rattle.play_holdings.specs.declared.holding.Holding.{Holding}

@@ -12,16 +12,16 @@ use Rattle.std.specs.Ordering.{is_eq}
 use Rattle.std.specs.declared.cmp.Ordering.TheVariants.{Less, Equal, Greater}
 use Rattle.std.specs.FinMap.{entries, entries_sorted, get-entries}
 use Rattle.std.specs.FinMap.Entries.{find, is_sorted, below_all}
-use Rattle.collections.specs.Positive.{AllPositive}
-use Rattle.collections.specs.Total.{total}
-use Rattle.collections.proofs.Places.{second, third, below_head, below_tail, below_equal}
-use Rattle.names.specs.declared.token.Token.{Token}
-use Rattle.names.specs.Orders.{token_cmp}
-use Rattle.names.specs.Totals.{token_total}
-use Rattle.bundle.specs.Bundles.{Amounts, amount_of}
-use Rattle.bundle.specs.Totals.{total_of}
-use Rattle.eutxo_types.specs.declared.output.Output.{Output}
-use Rattle.eutxo_types.specs.declared.output_ref.OutputRef.{OutputRef}
+use Rattle.eutxo.specs.Collections.Positive.{AllPositive}
+use Rattle.eutxo.specs.Collections.Total.{total}
+use Rattle.eutxo.proofs.FromCollections.Places.{second, third, below_head, below_tail, below_equal}
+use Rattle.eutxo.specs.Names.declared.token.Token.{Token}
+use Rattle.eutxo.specs.Names.Orders.{token_cmp}
+use Rattle.eutxo.specs.Names.Totals.{token_total}
+use Rattle.eutxo.specs.Bundle.Bundles.{Amounts, amount_of}
+use Rattle.eutxo.specs.Bundle.Totals.{total_of}
+use Rattle.eutxo.specs.EutxoTypes.declared.output.Output.{Output}
+use Rattle.eutxo.specs.EutxoTypes.declared.output_ref.OutputRef.{OutputRef}
 use Rattle.play_holdings.specs.declared.holder.Holder.{Holder}
 use Rattle.play_holdings.specs.declared.holding.Holding.{Holding}
 use Rattle.play_holdings.specs.Holdings.{come_to, of_token, holding_of, holder_under, held_in, AllAbove}

@@ -4,7 +4,7 @@ use Rattle.std.proofs.lemmas.Int.{ints}
 use Rattle.std.specs.Fmt.{digits}
 use Rattle.json.proofs.OnLiterals.{json_on_literals}
 use Rattle.hex.proofs.OnLiterals.{hex_on_literals}
-use Rattle.names.specs.Equal.{ada}
+use Rattle.eutxo.specs.Names.Equal.{ada}
 use Rattle.play_holdings.specs.declared.holder.Holder.TheVariants.{Address, Payout}
 use Rattle.play_holdings.specs.Rows.{gold, KindsStandInOrder, EachKindStandsInOrder, LocksTellHolders, OutputsAreSummed, HoldingsArePrinted}
 

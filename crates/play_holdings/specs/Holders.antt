@@ -2,7 +2,7 @@
 use Rattle.std.specs.Prelude.{ℕ, List, []}
 use Rattle.std.specs.declared.cmp.Ordering.{Ordering}
 use Rattle.std.specs.Ordering.{nat_cmp, on, then_cmp}
-use Rattle.names.specs.Orders.{bytes_cmp, token_cmp}
+use Rattle.eutxo.specs.Names.Orders.{bytes_cmp, token_cmp}
 use Rattle.play_holdings.specs.declared.holder.Holder.{Holder}
 use Rattle.play_holdings.specs.declared.holder.Holder.TheVariants.{Address, Payout, Thread, Elsewhere}
 use Rattle.play_holdings.specs.declared.holding.Holding.{Holding}

@@ -2,14 +2,14 @@
 use Rattle.std.specs.Prelude.{◌≡◌, ℕ, ◌+◌, ℤ, pos, ◌<ℤ◌, Bool, false, if◌then◌else◌, List, [], ◌∷◌, map, Option, Some, None}
 use Rattle.std.specs.FinMap.{entries}
 use Rattle.std.specs.declared.cmp.Ordering.TheVariants.{Less}
-use Rattle.collections.specs.Total.{total}
-use Rattle.names.specs.declared.token.Token.{Token}
-use Rattle.names.specs.Equal.{same_token}
-use Rattle.eutxo_types.specs.declared.lock.Lock.{Lock}
-use Rattle.eutxo_types.specs.declared.lock.Lock.TheVariants as locks
-use Rattle.eutxo_types.specs.declared.output.Output.{Output}
-use Rattle.eutxo_types.specs.declared.output_ref.OutputRef.{OutputRef}
-use Rattle.eutxo_types.specs.Parts.{same_ref}
+use Rattle.eutxo.specs.Collections.Total.{total}
+use Rattle.eutxo.specs.Names.declared.token.Token.{Token}
+use Rattle.eutxo.specs.Names.Equal.{same_token}
+use Rattle.eutxo.specs.EutxoTypes.declared.lock.Lock.{Lock}
+use Rattle.eutxo.specs.EutxoTypes.declared.lock.Lock.TheVariants as locks
+use Rattle.eutxo.specs.EutxoTypes.declared.output.Output.{Output}
+use Rattle.eutxo.specs.EutxoTypes.declared.output_ref.OutputRef.{OutputRef}
+use Rattle.eutxo.specs.EutxoTypes.Parts.{same_ref}
 use Rattle.play_holdings.specs.declared.holder.Holder.{Holder}
 use Rattle.play_holdings.specs.declared.holder.Holder.TheVariants.{Address, Payout, Thread, Elsewhere}
 use Rattle.play_holdings.specs.declared.holding.Holding.{Holding}

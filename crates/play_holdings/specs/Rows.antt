@@ -1,11 +1,11 @@
 -- Worked rows, computed on the definitions.
 use Rattle.std.specs.Prelude.{◌≡◌, ◌++◌, ℤ, pos, List, [], ◌∷◌, Option, Some, None, codes}
 use Rattle.std.specs.declared.cmp.Ordering.TheVariants.{Less, Equal, Greater}
-use Rattle.names.specs.declared.token.Token.{Token}
-use Rattle.names.specs.Equal.{ada}
-use Rattle.eutxo_types.specs.declared.lock.Lock.TheVariants as locks
-use Rattle.eutxo_types.specs.declared.output_ref.OutputRef.{OutputRef}
-use Rattle.eutxo_types.specs.declared.output_ref.OutputRef.TheVariants as references
+use Rattle.eutxo.specs.Names.declared.token.Token.{Token}
+use Rattle.eutxo.specs.Names.Equal.{ada}
+use Rattle.eutxo.specs.EutxoTypes.declared.lock.Lock.TheVariants as locks
+use Rattle.eutxo.specs.EutxoTypes.declared.output_ref.OutputRef.{OutputRef}
+use Rattle.eutxo.specs.EutxoTypes.declared.output_ref.OutputRef.TheVariants as references
 use Rattle.plans.specs.declared.scenario.NamedThread.{NamedThread}
 use Rattle.play_holdings.specs.declared.holder.Holder.{Holder}
 use Rattle.play_holdings.specs.declared.holder.Holder.TheVariants.{Address, Payout, Thread, Elsewhere}

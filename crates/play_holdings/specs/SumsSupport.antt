@@ -1,7 +1,7 @@
 -- No reader needs this file: holdings in order, summed one after another.
 use Rattle.std.specs.Prelude.{◌≡◌, ℕ, ℤ, pos, ◌+ℤ◌, ◌≤ℤ◌, ◌-◌, ◌^◌, Bool, true, false, if◌then◌else◌, List, [], ◌∷◌, Option, Some, None}
 use Rattle.std.specs.Ordering.{eq_by_cmp, is_lt}
-use Rattle.names.specs.declared.token.Token.{Token}
+use Rattle.eutxo.specs.Names.declared.token.Token.{Token}
 use Rattle.play_holdings.specs.declared.holding.Holding.{Holding}
 use Rattle.play_holdings.specs.Holders.{holding_cmp}
 use Rattle.play_holdings.specs.Holdings.{come_to, of_token}

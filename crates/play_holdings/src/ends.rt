@@ -1,14 +1,13 @@
 //! Where threads end.
 ghost use Rattle.std.specs.Prelude.{◌≡◌, ◌++◌, ◌∷◌, [], IfOk, OnOk};
 ghost use Rattle.std.specs.Map.{lookup};
-ghost use Rattle.eutxo_types.specs.declared.output_ref.OutputRef.{OutputRef as Reference};
-ghost use Rattle.eutxo_types.specs.Parts.{same_ref};
+ghost use Rattle.eutxo.specs.EutxoTypes.declared.output_ref.OutputRef.{OutputRef as Reference};
+ghost use Rattle.eutxo.specs.EutxoTypes.Parts.{same_ref};
 ghost use Rattle.play_holdings.specs.Holdings.{ends_at, thread_from, thread_holder, holder_under};
 ghost use Rattle.play_holdings.specs.SumsSupport.{or_place};
 
 use crate::holder::Holder;
-use collections::{Memory, TryClone};
-use eutxo_types::{Lock, OutputRef};
+use eutxo::{Lock, Memory, OutputRef, TryClone};
 use indexmap::IndexMap;
 use std::alloc::{AllocError, Global};
 use std::marker::Model;
@@ -24,9 +23,9 @@ impl Model for Ends {
     ghost use Rattle.std.specs.Prelude.{◌≡◌, List, Option};
     ghost use Rattle.std.specs.Coded.{codes};
     ghost use Rattle.std.specs.Map.{lookup};
-    ghost use Rattle.eutxo_types.specs.declared.output_ref.OutputRef.{OutputRef};
-    ghost use Rattle.eutxo_types.specs.contracts.output_ref.OutputRef as references;
-    ghost use Rattle.eutxo_types.specs.Parts.{same_ref};
+    ghost use Rattle.eutxo.specs.EutxoTypes.declared.output_ref.OutputRef.{OutputRef};
+    ghost use Rattle.eutxo.specs.EutxoTypes.contracts.output_ref.OutputRef as references;
+    ghost use Rattle.eutxo.specs.EutxoTypes.Parts.{same_ref};
     ghost use Rattle.play_holdings.specs.Holdings.{thread_from};
 
     ghost Value = { List (Option OutputRef) };

@@ -2,7 +2,7 @@
 ghost use Rattle.std.specs.Prelude.{◌≡◌};
 ghost use Rattle.play_holdings.specs.Holders.{kind_of, currency_of, name_of, place_of, holder_cmp};
 
-use collections::{Bytes, Memory, Text, TryClone};
+use eutxo::{Bytes, Memory, Text, TryClone};
 use std::cmp::Ordering;
 
 /// Who holds something that stands unspent. Holders stand in this order: addresses by their bytes, payouts by currency symbol

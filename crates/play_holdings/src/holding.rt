@@ -3,8 +3,7 @@ ghost use Rattle.std.specs.Prelude.{◌≡◌};
 ghost use Rattle.play_holdings.specs.Holders.{holding_cmp};
 
 use crate::holder::{Holder, compare_holders};
-use collections::{Memory, TryClone};
-use names::{Token, compare_tokens};
+use eutxo::{Memory, Token, TryClone, compare_tokens};
 use std::cmp::Ordering;
 
 /// An amount of a token, in the token's smallest unit, with its holder. Holdings stand by holder, then by token.

@@ -1,8 +1,8 @@
 //! Who holds what.
 ghost use Rattle.std.specs.Prelude.{◌≡◌, ◌≤ℤ◌, IfOk};
 ghost use Rattle.std.specs.List.{flat_map};
-ghost use Rattle.bundle.specs.Totals.{total_of};
-ghost use Rattle.names.specs.declared.token.Token.{Token as AToken};
+ghost use Rattle.eutxo.specs.Bundle.Totals.{total_of};
+ghost use Rattle.eutxo.specs.Names.declared.token.Token.{Token as AToken};
 ghost use Rattle.play_holdings.specs.Holdings.{AreSums, come_to, held_in, of_token};
 ghost use Rattle.play_holdings.specs.SumsSupport.{most};
 
@@ -11,8 +11,7 @@ use crate::holding::Holding;
 use crate::lent::LentOutput;
 use crate::one_by_one::one_by_one;
 use crate::sums::sums_of;
-use collections::Memory;
-use eutxo_types::OutputRef;
+use eutxo::{Memory, OutputRef};
 use std::alloc::Global;
 
 /// Who holds what of these unspent outputs: what they hold, summed by holder and token, in the order of both. What the contract of

@@ -1,5 +1,5 @@
 //! Outputs, lent.
-use eutxo_types::{Output, OutputRef};
+use eutxo::{Output, OutputRef};
 use std::marker::Model;
 
 /// An unspent output, lent, with its reference. Clauses see the pair.
@@ -11,10 +11,10 @@ pub struct LentOutput<'a> {
 
 impl<'a> Model for LentOutput<'a> {
     ghost use Rattle.std.specs.Coded.{codes};
-    ghost use Rattle.eutxo_types.specs.declared.output.Output.{Output};
-    ghost use Rattle.eutxo_types.specs.declared.output_ref.OutputRef.{OutputRef};
-    ghost use Rattle.eutxo_types.specs.contracts.output.Output as outputs;
-    ghost use Rattle.eutxo_types.specs.contracts.output_ref.OutputRef as references;
+    ghost use Rattle.eutxo.specs.EutxoTypes.declared.output.Output.{Output};
+    ghost use Rattle.eutxo.specs.EutxoTypes.declared.output_ref.OutputRef.{OutputRef};
+    ghost use Rattle.eutxo.specs.EutxoTypes.contracts.output.Output as outputs;
+    ghost use Rattle.eutxo.specs.EutxoTypes.contracts.output_ref.OutputRef as references;
 
     ghost Value = { OutputRef × Output };
 

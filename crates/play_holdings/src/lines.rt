@@ -5,7 +5,7 @@ ghost use Rattle.play_holdings.specs.HoldingLines.{name_of, quoted, holder_text,
 
 use crate::holder::Holder;
 use crate::holding::Holding;
-use collections::Memory;
+use eutxo::Memory;
 use json_write_contracts::term_text;
 use places::token_text;
 use plans::NamedThread;

@@ -7,9 +7,7 @@ use crate::ends::Ends;
 use crate::holder::Holder;
 use crate::holding::Holding;
 use crate::lent::LentOutput;
-use collections::{Memory, TryClone};
-use eutxo_types::{Output, OutputRef};
-use names::Token;
+use eutxo::{Memory, Output, OutputRef, Token, TryClone};
 use std::alloc::Global;
 
 // Puts amounts at the end, all of one holder.

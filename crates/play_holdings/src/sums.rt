@@ -6,7 +6,7 @@ ghost use Rattle.play_holdings.specs.SumsSupport as support;
 ghost use Rattle.play_holdings.specs.SumsSupport.{most, Fit, NeverFall, with_amount, behind, with_next, with_all, HasRoom};
 
 use crate::holding::{Holding, compare_holdings};
-use collections::{Memory, TryClone};
+use eutxo::{Memory, TryClone};
 use std::alloc::Global;
 
 fn sort_holdings(rows: &mut Vec<Holding>)

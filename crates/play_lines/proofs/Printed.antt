@@ -1,7 +1,7 @@
 -- What is printed at once, and a round begun.
 use Rattle.std.proofs.Common.{◌≡◌, ℕ, List, ◌∷◌, ◌++◌, sym, ap, ◌∙◌, append_assoc, codes, subst, Result, Ok, Err, is_ok, OnOk, if◌then◌else◌}
-use Rattle.ledger.specs.declared.call.Reply.TheVariants as replies
-use Rattle.ledger.specs.declared.call.Ticketed.{Ticketed}
+use Rattle.builder_spec.specs.Ledger.declared.call.Reply.TheVariants as replies
+use Rattle.builder_spec.specs.Ledger.declared.call.Ticketed.{Ticketed}
 use Rattle.play_lines.specs.PlayLines.{ticket_text, tickets_on, reply_text}
 
 -- a text that was printed is the one that is said

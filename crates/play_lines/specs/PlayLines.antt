@@ -3,19 +3,19 @@
 use Rattle.std.specs.Prelude.{ℕ, ◌+◌, Bool, if◌then◌else◌, List, [], ◌∷◌, ◌++◌, length, codes, decimal}
 use Rattle.std.specs.Fmt.{signed_decimal}
 use Rattle.serde_json.specs.Written.{compact_text}
-use Rattle.names.specs.declared.party.Party.{Party}
-use Rattle.names.specs.declared.token.Token.{Token}
+use Rattle.builder_spec.specs.Names.declared.party.Party.{Party}
+use Rattle.builder_spec.specs.Names.declared.token.Token.{Token}
 use Rattle.json_write_contracts.specs.WrittenNames.{party_json, token_json}
-use Rattle.eutxo_types.specs.declared.fault.TxFault.{TxFault}
-use Rattle.eutxo_types.specs.declared.fault.TxFault.TheVariants as rules
-use Rattle.eutxo_types.specs.declared.verdict.Verdict.{Verdict}
-use Rattle.eutxo_types.specs.declared.verdict.Verdict.TheVariants as verdicts
+use Rattle.builder_spec.specs.EutxoTypes.declared.fault.TxFault.{TxFault}
+use Rattle.builder_spec.specs.EutxoTypes.declared.fault.TxFault.TheVariants as rules
+use Rattle.builder_spec.specs.EutxoTypes.declared.verdict.Verdict.{Verdict}
+use Rattle.builder_spec.specs.EutxoTypes.declared.verdict.Verdict.TheVariants as verdicts
 use Rattle.builder_spec.specs.declared.fault.BuildFault.{BuildFault}
 use Rattle.builder_spec.specs.declared.fault.BuildFault.TheVariants as causes
-use Rattle.ledger.specs.declared.call.Reply.{Reply}
-use Rattle.ledger.specs.declared.call.Reply.TheVariants as replies
-use Rattle.ledger.specs.declared.call.Entry.{Entry}
-use Rattle.ledger.specs.declared.call.Ticketed.{Ticketed}
+use Rattle.builder_spec.specs.Ledger.declared.call.Reply.{Reply}
+use Rattle.builder_spec.specs.Ledger.declared.call.Reply.TheVariants as replies
+use Rattle.builder_spec.specs.Ledger.declared.call.Entry.{Entry}
+use Rattle.builder_spec.specs.Ledger.declared.call.Ticketed.{Ticketed}
 use Rattle.marlowe_refusals.specs.Refusals.{sem_fault_name, compile_fault_name}
 
 -- ---- faults: the name, and after a space the place, the party, the token, or the name of the fault inside

@@ -1,9 +1,9 @@
 -- The definition of the lines on small histories, whatever was called.
 use Rattle.std.specs.Prelude.{◌≡◌, true, false, [], ◌∷◌, codes}
-use Rattle.eutxo_types.specs.declared.fault.TxFault.TheVariants.{NotUnspent, OutsideInterval}
-use Rattle.eutxo_types.specs.declared.verdict.Verdict.TheVariants.{Accepted, Refused}
-use Rattle.ledger.specs.declared.call.Call.{Call}
-use Rattle.ledger.specs.declared.call.Reply.TheVariants as replies
+use Rattle.builder_spec.specs.EutxoTypes.declared.fault.TxFault.TheVariants.{NotUnspent, OutsideInterval}
+use Rattle.builder_spec.specs.EutxoTypes.declared.verdict.Verdict.TheVariants.{Accepted, Refused}
+use Rattle.builder_spec.specs.Ledger.declared.call.Call.{Call}
+use Rattle.builder_spec.specs.Ledger.declared.call.Reply.TheVariants as replies
 use Rattle.play_lines.specs.PlayLines.{played_lines}
 
 -- nothing was called

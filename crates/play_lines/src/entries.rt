@@ -1,12 +1,10 @@
 //! The lines of entries.
 ghost use Rattle.std.specs.Prelude.{◌≡◌, ◌++◌, OnOk, string_bytes};
-ghost use Rattle.ledger.specs.declared.call.Reply.TheVariants as replies;
+ghost use Rattle.builder_spec.specs.Ledger.declared.call.Reply.TheVariants as replies;
 ghost use Rattle.play_lines.specs.PlayLines.{ticket_text, reply_text, entry_line, entry_lines};
 
 use crate::fault_texts::tx_fault_text;
-use collections::Memory;
-use eutxo_types::Verdict;
-use ledger::{Entry, Reply, Ticketed};
+use builder_spec::{Entry, Memory, Reply, Ticketed, Verdict};
 use marlowe_refusals::compile_fault_name;
 use std::alloc::Global;
 use std::fmt::Write;

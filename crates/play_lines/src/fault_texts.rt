@@ -3,9 +3,7 @@ ghost use Rattle.std.specs.Prelude.{◌≡◌, IfOk, string_bytes};
 ghost use Rattle.serde_json.specs.Written.{compact_text};
 ghost use Rattle.play_lines.specs.PlayLines.{at_place, beside, tx_fault_text, build_fault_text};
 
-use builder_spec::BuildFault;
-use collections::Memory;
-use eutxo_types::TxFault;
+use builder_spec::{BuildFault, Memory, TxFault};
 use json_write_contracts::{Term, term_text};
 use marlowe_refusals::sem_fault_name;
 use std::alloc::Global;

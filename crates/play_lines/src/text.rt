@@ -4,8 +4,7 @@ ghost use Rattle.play_lines.specs.PlayLines.{played_lines};
 
 use crate::entries::print_entries;
 use crate::threads::{ThreadLine, print_threads};
-use collections::Memory;
-use ledger::Entry;
+use builder_spec::{Entry, Memory};
 use std::alloc::Global;
 use std::fmt::Write;
 

@@ -2,7 +2,7 @@
 ghost use Rattle.std.specs.Prelude.{◌≡◌, ◌++◌, OnOk, string_bytes};
 ghost use Rattle.play_lines.specs.PlayLines.{thread_line, thread_lines};
 
-use collections::{Memory, Text};
+use builder_spec::{Memory, Text};
 use std::fmt::Write;
 use std::marker::Model;
 

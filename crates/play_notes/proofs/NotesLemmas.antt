@@ -1,7 +1,7 @@
 -- Notes behind entries.
 use Rattle.std.proofs.Common.{◌≡◌, ℕ, zero, suc, ◌+◌, ◌<◌, ◌≤◌, List, [], ◌∷◌, ◌++◌, length, get_or, drop, map, refl, sym, ◌∙◌, ap, arith, append_assoc, slice_set}
 use Rattle.std.proofs.lemmas.List.{at_drop_more, length-map}
-use Rattle.ledger.specs.declared.call.Entry.{Entry}
+use Rattle.builder_spec.specs.Ledger.declared.call.Entry.{Entry}
 use Rattle.play_lines.specs.PlayLines.{entry_line}
 use Rattle.play_notes.specs.Notes.{put_behind, noted_entries}
 

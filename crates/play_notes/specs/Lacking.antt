@@ -1,13 +1,13 @@
 -- How much of a token lacks of what an intent deposits.
 use Rattle.std.specs.Prelude.{ℕ, ℤ, pos, ◌+ℤ◌, ◌-ℤ◌, int_lt, ◌&&◌, List, [], ◌∷◌, if◌then◌else◌, Result, Ok, Err}
-use Rattle.names.specs.declared.token.Token.{Token}
-use Rattle.names.specs.Equal.{same_token}
-use Rattle.bundle.specs.Bundles.{amount_of}
+use Rattle.contract.specs.Names.declared.token.Token.{Token}
+use Rattle.contract.specs.Names.Equal.{same_token}
+use Rattle.builder_spec.specs.Bundle.Bundles.{amount_of}
 use Rattle.contract.specs.declared.fault.SemFault.{SemFault}
 use Rattle.contract.specs.declared.input.Input.{Input}
 use Rattle.contract.specs.declared.input.Input.TheVariants.{Deposit}
-use Rattle.evaluation.specs.Checked.{checked}
-use Rattle.ledger.specs.declared.look.Unspent.{Unspent}
+use Rattle.builder_spec.specs.Evaluation.Checked.{checked}
+use Rattle.builder_spec.specs.Ledger.declared.look.Unspent.{Unspent}
 use Rattle.plans.specs.declared.intent.Intent.{Intent}
 use Rattle.plans.specs.declared.intent.Intent.TheVariants.{Step, Steps}
 

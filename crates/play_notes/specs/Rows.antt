@@ -1,9 +1,9 @@
 -- Worked rows, computed on the definitions, whatever was called.
 use Rattle.std.specs.Prelude.{◌≡◌, true, [], ◌∷◌, codes}
-use Rattle.eutxo_types.specs.declared.fault.TxFault.TheVariants.{NotUnspent, OutsideInterval}
-use Rattle.eutxo_types.specs.declared.verdict.Verdict.TheVariants.{Accepted, Refused}
-use Rattle.ledger.specs.declared.call.Call.{Call}
-use Rattle.ledger.specs.declared.call.Reply.TheVariants as replies
+use Rattle.builder_spec.specs.EutxoTypes.declared.fault.TxFault.TheVariants.{NotUnspent, OutsideInterval}
+use Rattle.builder_spec.specs.EutxoTypes.declared.verdict.Verdict.TheVariants.{Accepted, Refused}
+use Rattle.builder_spec.specs.Ledger.declared.call.Call.{Call}
+use Rattle.builder_spec.specs.Ledger.declared.call.Reply.TheVariants as replies
 use Rattle.play_lines.specs.PlayLines.{played_lines}
 use Rattle.play_notes.specs.Notes.{notes_of, put_behind, noted_lines}
 

@@ -5,13 +5,10 @@ ghost use Rattle.play_notes.specs.Intents.{thread_named, contract_named, steps_t
 ghost use Rattle.play_notes.specs.Lacking.{lacking as told_lacking};
 
 use crate::lacking::lacking;
-use builder_spec::BuildFault;
-use collections::{Items, Memory};
-use contract::Input;
+use builder_spec::{BuildFault, Unspent};
+use contract::{Input, Items, Memory, Token};
 use fault_words::{build_words, lacking_words, too_little_words};
 use json_write_contracts::term_text;
-use ledger::Unspent;
-use names::Token;
 use plans::{Intent, NamedContract, NamedThread};
 use play_lines::build_fault_text;
 use std::alloc::Global;

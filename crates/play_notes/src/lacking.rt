@@ -1,14 +1,11 @@
 //! How much lacks.
 ghost use Rattle.std.specs.Prelude.{◌≡◌};
-ghost use Rattle.names.specs.Equal.{same_token};
+ghost use Rattle.contract.specs.Names.Equal.{same_token};
 ghost use Rattle.play_notes.specs.Lacking as told;
 ghost use Rattle.play_notes.specs.Lacking.{and_more, and_less, deposited, with_inputs, with_steps, wanted, without};
 
-use collections::{Items, Same};
-use contract::{Input, SemFault};
-use evaluation::{difference, sum};
-use ledger::Unspent;
-use names::Token;
+use builder_spec::{Unspent, difference, sum};
+use contract::{Input, Items, Same, SemFault, Token};
 use plans::Intent;
 
 // A sum, or that it leaves 128 bits.

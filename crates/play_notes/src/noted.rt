@@ -3,8 +3,8 @@ ghost use Rattle.std.specs.Prelude.{◌≡◌, ◌++◌, length, map, IfOk, OnOk
 ghost use Rattle.play_notes.specs.Notes as told;
 ghost use Rattle.play_notes.specs.Notes.{noted_entries};
 
-use collections::Memory;
-use ledger::Entry;
+use builder_spec::Entry;
+use contract::Memory;
 use play_lines::{ThreadLine, print_entry, print_threads};
 use std::alloc::Global;
 use std::fmt::Write;

@@ -4,8 +4,8 @@ ghost use Rattle.play_notes.specs.Notes as told;
 ghost use Rattle.play_notes.specs.Notes.{reply_notes};
 
 use crate::replies::put_reply;
-use collections::Memory;
-use ledger::{Entry, Reply};
+use builder_spec::{Entry, Reply};
+use contract::Memory;
 use std::alloc::Global;
 
 fn note_of(alloc: Global, reply: &Reply) -> Result<String, Memory>

@@ -3,10 +3,9 @@ ghost use Rattle.std.specs.Prelude.{◌≡◌, ◌++◌, OnOk, string_bytes};
 ghost use Rattle.play_notes.specs.Notes as told;
 ghost use Rattle.play_notes.specs.Notes.{verdict_note, round_notes, reply_notes};
 
-use collections::Memory;
-use eutxo_types::Verdict;
+use builder_spec::{Reply, Ticketed, Verdict};
+use contract::Memory;
 use fault_words::rule_words;
-use ledger::{Reply, Ticketed};
 use std::alloc::Global;
 use std::fmt::Write;
 

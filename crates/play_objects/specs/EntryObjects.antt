@@ -2,13 +2,13 @@
 use Rattle.std.specs.Prelude.{ℕ, ◌+◌, ℤ, Bool, if◌then◌else◌, List, [], ◌∷◌, ◌++◌, codes, decimal}
 use Rattle.serde_json.specs.Written.{compact_text}
 use Rattle.json_write_contracts.specs.WrittenNames.{number_json}
-use Rattle.eutxo_types.specs.declared.fault.TxFault.{TxFault}
-use Rattle.eutxo_types.specs.declared.verdict.Verdict.{Verdict}
-use Rattle.eutxo_types.specs.declared.verdict.Verdict.TheVariants as verdicts
-use Rattle.ledger.specs.declared.call.Entry.{Entry}
-use Rattle.ledger.specs.declared.call.Reply.{Reply}
-use Rattle.ledger.specs.declared.call.Reply.TheVariants as replies
-use Rattle.ledger.specs.declared.call.Ticketed.{Ticketed}
+use Rattle.builder_spec.specs.EutxoTypes.declared.fault.TxFault.{TxFault}
+use Rattle.builder_spec.specs.EutxoTypes.declared.verdict.Verdict.{Verdict}
+use Rattle.builder_spec.specs.EutxoTypes.declared.verdict.Verdict.TheVariants as verdicts
+use Rattle.builder_spec.specs.Ledger.declared.call.Entry.{Entry}
+use Rattle.builder_spec.specs.Ledger.declared.call.Reply.{Reply}
+use Rattle.builder_spec.specs.Ledger.declared.call.Reply.TheVariants as replies
+use Rattle.builder_spec.specs.Ledger.declared.call.Ticketed.{Ticketed}
 use Rattle.marlowe_refusals.specs.Refusals.{compile_fault_name}
 use Rattle.fault_words.specs.Words.{rule_words}
 use Rattle.play_lines.specs.PlayLines.{ThreadLine, tx_fault_text}

@@ -2,7 +2,7 @@
 use Rattle.std.specs.Prelude.{ℕ, ◌+◌, if◌then◌else◌, List, [], ◌∷◌, ◌++◌, slice_get, codes, decimal}
 use Rattle.std.specs.Fmt.{signed_decimal}
 use Rattle.contract.specs.declared.input.Input.{Input}
-use Rattle.ledger.specs.declared.look.Unspent.{Unspent}
+use Rattle.builder_spec.specs.Ledger.declared.look.Unspent.{Unspent}
 use Rattle.builder_spec.specs.declared.fault.BuildFault.{BuildFault}
 use Rattle.plans.specs.declared.intent.Intent.{Intent}
 use Rattle.plans.specs.declared.intent.Intent.TheVariants.{Step, Steps, Claim, Round, Advance}

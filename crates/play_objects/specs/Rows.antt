@@ -1,12 +1,12 @@
 -- Worked rows, computed on the definitions, whatever was called.
 use Rattle.std.specs.Prelude.{◌≡◌, pos, true, false, [], ◌∷◌, codes}
-use Rattle.names.specs.Equal.{ada}
+use Rattle.contract.specs.Names.Equal.{ada}
 use Rattle.contract.specs.declared.interval.Interval.{Interval}
-use Rattle.eutxo_types.specs.declared.fault.TxFault.TheVariants.{NotUnspent, OutsideInterval}
-use Rattle.eutxo_types.specs.declared.verdict.Verdict.TheVariants.{Accepted, Refused}
+use Rattle.builder_spec.specs.EutxoTypes.declared.fault.TxFault.TheVariants.{NotUnspent, OutsideInterval}
+use Rattle.builder_spec.specs.EutxoTypes.declared.verdict.Verdict.TheVariants.{Accepted, Refused}
 use Rattle.builder_spec.specs.declared.fault.BuildFault.TheVariants.{NoThread, NotSigned}
-use Rattle.ledger.specs.declared.call.Call.{Call}
-use Rattle.ledger.specs.declared.call.Reply.TheVariants as replies
+use Rattle.builder_spec.specs.Ledger.declared.call.Call.{Call}
+use Rattle.builder_spec.specs.Ledger.declared.call.Reply.TheVariants as replies
 use Rattle.plans.specs.declared.intent.Intent.TheVariants.{Claim, Round}
 use Rattle.play_holdings.specs.declared.holder.Holder.TheVariants.{Payout}
 use Rattle.play_objects.specs.EntryObjects.{entry_object, thread_object, count_object}

@@ -5,11 +5,10 @@ ghost use Rattle.step_notes.specs.StepObjects as steps;
 ghost use Rattle.play_objects.specs.EntryObjects as told;
 ghost use Rattle.play_objects.specs.EntryObjects.{refusal_members, verdict_members, ticket_object, ticket_objects, round_members, shown_members, reply_members, entry_head, entry_object};
 
-use collections::Memory;
-use eutxo_types::{TxFault, Verdict};
+use builder_spec::{Entry, Reply, Ticketed, TxFault, Verdict};
+use contract::Memory;
 use fault_words::rule_words;
 use json_write_contracts::term_text;
-use ledger::{Entry, Reply, Ticketed};
 use marlowe_refusals::compile_fault_name;
 use play_lines::tx_fault_text;
 use std::alloc::Global;

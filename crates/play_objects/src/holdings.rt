@@ -3,7 +3,7 @@ ghost use Rattle.std.specs.Prelude.{◌≡◌, ◌++◌, IfOk, OnOk, string_byte
 ghost use Rattle.play_objects.specs.HoldingObjects as told;
 ghost use Rattle.play_objects.specs.HoldingObjects.{holder_members, holding_object};
 
-use collections::Memory;
+use contract::Memory;
 use json_write_contracts::term_text;
 use plans::NamedThread;
 use play_holdings::{Holder, Holding};

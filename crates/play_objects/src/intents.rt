@@ -6,11 +6,9 @@ ghost use Rattle.play_objects.specs.IntentObjects as told;
 ghost use Rattle.play_objects.specs.IntentObjects.{step_names, cause_members, why_members};
 
 use crate::entries::quoted;
-use builder_spec::BuildFault;
-use collections::{Items, Memory};
-use contract::Input;
+use builder_spec::{BuildFault, Unspent};
+use contract::{Input, Items, Memory};
 use json_write_contracts::term_text;
-use ledger::Unspent;
 use plans::{Intent, NamedContract, NamedThread};
 use play_lines::build_fault_text;
 use play_notes::{asks_for_nothing, cause_words, contract_name, thread_name};

@@ -4,7 +4,7 @@ ghost use Rattle.play_objects.specs.EntryObjects as told;
 ghost use Rattle.play_objects.specs.EntryObjects.{truth_text, thread_object, thread_objects, joined};
 
 use crate::entries::quoted;
-use collections::Memory;
+use contract::Memory;
 use play_lines::ThreadLine;
 use std::alloc::Global;
 use std::fmt::Write;

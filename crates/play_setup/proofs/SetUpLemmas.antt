@@ -8,26 +8,26 @@ use Rattle.std.proofs.Math.ListN.{get_or-map}
 use Rattle.std.specs.Prelude.{Bool, true, false, if◌then◌else◌, get_or, slice_get, Result, Ok, Err, IfOk, MatchOption}
 use Rattle.std.specs.Result.{IsOkUnless}
 use Rattle.std.specs.List.{All, flat_map}
-use Rattle.compiler.specs.declared.fault.CompileFault.{CompileFault}
-use Rattle.compiler.specs.declared.fault.CompileFault.TheVariants as faults
-use Rattle.compiler.specs.Limits.{compile_fault}
+use Rattle.parties.specs.LedgerSpec.Compiler.declared.fault.CompileFault.{CompileFault}
+use Rattle.parties.specs.LedgerSpec.Compiler.declared.fault.CompileFault.TheVariants as faults
+use Rattle.parties.specs.LedgerSpec.Compiler.Limits.{compile_fault}
 use Rattle.contract.specs.Tree.{contract_tree}
-use Rattle.eutxo_types.specs.declared.fault.TxFault.{TxFault}
-use Rattle.eutxo_types.specs.declared.output_ref.OutputRef.{OutputRef}
-use Rattle.eutxo_types.specs.declared.output_ref.OutputRef.TheVariants.{Made}
-use Rattle.eutxo_types.specs.declared.tx.Tx.{Tx}
-use Rattle.eutxo_types.specs.Ids.{id_of}
-use Rattle.roles.specs.declared.published.Published.{Published}
-use Rattle.ledger.specs.declared.call.Call.{Call}
-use Rattle.ledger.specs.declared.call.Call.TheVariants as on
-use Rattle.ledger.specs.declared.call.Reply.{Reply}
-use Rattle.ledger.specs.declared.call.Reply.TheVariants as replies
-use Rattle.ledger.specs.declared.look.Look.{Look}
-use Rattle.ledger_spec.specs.Calls.{same_publication, publish_reply, publish_reply_beside, submit_reply, fault_on}
-use Rattle.ledger_spec.specs.Replay.{World, world, if_compiled, published_at}
-use Rattle.plans.specs.declared.scenario.NamedContract.{NamedContract}
-use Rattle.plans.specs.declared.scenario.NamedThread.{NamedThread}
-use Rattle.plans.specs.declared.scenario.Scenario.{Scenario}
+use Rattle.parties.specs.EutxoTypes.declared.fault.TxFault.{TxFault}
+use Rattle.parties.specs.EutxoTypes.declared.output_ref.OutputRef.{OutputRef}
+use Rattle.parties.specs.EutxoTypes.declared.output_ref.OutputRef.TheVariants.{Made}
+use Rattle.parties.specs.EutxoTypes.declared.tx.Tx.{Tx}
+use Rattle.parties.specs.EutxoTypes.Ids.{id_of}
+use Rattle.parties.specs.LedgerSpec.Roles.declared.published.Published.{Published}
+use Rattle.parties.specs.Ledger.declared.call.Call.{Call}
+use Rattle.parties.specs.Ledger.declared.call.Call.TheVariants as on
+use Rattle.parties.specs.Ledger.declared.call.Reply.{Reply}
+use Rattle.parties.specs.Ledger.declared.call.Reply.TheVariants as replies
+use Rattle.parties.specs.Ledger.declared.look.Look.{Look}
+use Rattle.parties.specs.LedgerSpec.Calls.{same_publication, publish_reply, publish_reply_beside, submit_reply, fault_on}
+use Rattle.parties.specs.LedgerSpec.Replay.{World, world, if_compiled, published_at}
+use Rattle.parties.specs.Plans.declared.scenario.NamedContract.{NamedContract}
+use Rattle.parties.specs.Plans.declared.scenario.NamedThread.{NamedThread}
+use Rattle.parties.specs.Plans.declared.scenario.Scenario.{Scenario}
 use Rattle.parties.specs.Answer.{Answer}
 use Rattle.parties.specs.Seats.{SeatRecord, ReceiptRecord, seat_record, answer_of, IsReply, WasTold}
 use Rattle.parties.specs.Session.{Opened}

@@ -1,11 +1,11 @@
 -- What of a setup is refused, by its fault: with the fault as lines have it, and in words.
 use Rattle.std.specs.Prelude.{ℕ, List, codes}
-use Rattle.compiler.specs.declared.fault.CompileFault.{CompileFault}
-use Rattle.compiler.specs.declared.fault.CompileFault.TheVariants as compiles
-use Rattle.eutxo_types.specs.declared.fault.TxFault.{TxFault}
-use Rattle.builder_spec.specs.declared.fault.BuildFault.{BuildFault}
-use Rattle.ledger_spec.specs.declared.genesis_fault.GenesisFault.{GenesisFault}
-use Rattle.ledger_spec.specs.declared.genesis_fault.GenesisFault.TheVariants as begins
+use Rattle.parties.specs.LedgerSpec.Compiler.declared.fault.CompileFault.{CompileFault}
+use Rattle.parties.specs.LedgerSpec.Compiler.declared.fault.CompileFault.TheVariants as compiles
+use Rattle.parties.specs.EutxoTypes.declared.fault.TxFault.{TxFault}
+use Rattle.parties.specs.LedgerSpec.BuilderSpec.declared.fault.BuildFault.{BuildFault}
+use Rattle.parties.specs.LedgerSpec.declared.genesis_fault.GenesisFault.{GenesisFault}
+use Rattle.parties.specs.LedgerSpec.declared.genesis_fault.GenesisFault.TheVariants as begins
 use Rattle.marlowe_refusals.specs.Refusals.{compile_fault_name}
 use Rattle.play_lines.specs.PlayLines.{build_fault_text, tx_fault_text}
 use Rattle.fault_words.specs.Words.{build_words, rule_words}

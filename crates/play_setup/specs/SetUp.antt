@@ -3,33 +3,33 @@ use Rattle.std.specs.Prelude.{◌≡◌, ℕ, ℤ, List, [], ◌∷◌, ◌++◌
 use Rattle.std.specs.List.{All, flat_map}
 use Rattle.contract.specs.declared.input.Input.{Input}
 use Rattle.contract.specs.Tree.{contract_tree}
-use Rattle.eutxo_types.specs.declared.lock.Lock.TheVariants.{Key}
-use Rattle.eutxo_types.specs.declared.output.Output.{Output}
-use Rattle.eutxo_types.specs.declared.output_ref.OutputRef.{OutputRef}
-use Rattle.eutxo_types.specs.declared.output_ref.OutputRef.TheVariants.{Genesis, Made}
-use Rattle.eutxo_types.specs.declared.tx.Tx.{Tx}
-use Rattle.eutxo_types.specs.Ids.{id_of}
-use Rattle.roles.specs.declared.published.Published.{Published}
-use Rattle.roles.specs.Publications.{published_of}
-use Rattle.ledger.specs.declared.ask.Ask.{Ask}
-use Rattle.ledger.specs.declared.call.Call.{Call}
-use Rattle.ledger.specs.declared.call.Call.TheVariants as on
-use Rattle.ledger.specs.declared.call.Entry.{Entry}
-use Rattle.ledger.specs.declared.call.Reply.{Reply}
-use Rattle.ledger.specs.declared.call.Reply.TheVariants as replies
-use Rattle.ledger.specs.declared.look.Look.{Look}
-use Rattle.ledger_spec.specs.Replay.{Course}
-use Rattle.builder_spec.specs.declared.fault.BuildFault.{BuildFault}
-use Rattle.builder_spec.specs.Built.{build_answer}
-use Rattle.builder_spec.specs.Requests.{StartRequest, start_request}
-use Rattle.builder_spec.specs.Starts.{hinders_start, layout_start}
-use Rattle.plans.specs.declared.intent.Intent.{Intent}
-use Rattle.plans.specs.declared.intent.Intent.TheVariants.{Step, Steps, Claim, Round, Advance}
-use Rattle.plans.specs.declared.plan.Plan.{Plan}
-use Rattle.plans.specs.declared.scenario.Funds.{Funds}
-use Rattle.plans.specs.declared.scenario.NamedContract.{NamedContract}
-use Rattle.plans.specs.declared.scenario.NamedThread.{NamedThread}
-use Rattle.plans.specs.declared.scenario.Scenario.{Scenario}
+use Rattle.parties.specs.EutxoTypes.declared.lock.Lock.TheVariants.{Key}
+use Rattle.parties.specs.EutxoTypes.declared.output.Output.{Output}
+use Rattle.parties.specs.EutxoTypes.declared.output_ref.OutputRef.{OutputRef}
+use Rattle.parties.specs.EutxoTypes.declared.output_ref.OutputRef.TheVariants.{Genesis, Made}
+use Rattle.parties.specs.EutxoTypes.declared.tx.Tx.{Tx}
+use Rattle.parties.specs.EutxoTypes.Ids.{id_of}
+use Rattle.parties.specs.LedgerSpec.Roles.declared.published.Published.{Published}
+use Rattle.parties.specs.LedgerSpec.Roles.Publications.{published_of}
+use Rattle.parties.specs.Ledger.declared.ask.Ask.{Ask}
+use Rattle.parties.specs.Ledger.declared.call.Call.{Call}
+use Rattle.parties.specs.Ledger.declared.call.Call.TheVariants as on
+use Rattle.parties.specs.Ledger.declared.call.Entry.{Entry}
+use Rattle.parties.specs.Ledger.declared.call.Reply.{Reply}
+use Rattle.parties.specs.Ledger.declared.call.Reply.TheVariants as replies
+use Rattle.parties.specs.Ledger.declared.look.Look.{Look}
+use Rattle.parties.specs.LedgerSpec.Replay.{Course}
+use Rattle.parties.specs.LedgerSpec.BuilderSpec.declared.fault.BuildFault.{BuildFault}
+use Rattle.parties.specs.LedgerSpec.BuilderSpec.Built.{build_answer}
+use Rattle.parties.specs.LedgerSpec.BuilderSpec.Requests.{StartRequest, start_request}
+use Rattle.parties.specs.LedgerSpec.BuilderSpec.Starts.{hinders_start, layout_start}
+use Rattle.parties.specs.Plans.declared.intent.Intent.{Intent}
+use Rattle.parties.specs.Plans.declared.intent.Intent.TheVariants.{Step, Steps, Claim, Round, Advance}
+use Rattle.parties.specs.Plans.declared.plan.Plan.{Plan}
+use Rattle.parties.specs.Plans.declared.scenario.Funds.{Funds}
+use Rattle.parties.specs.Plans.declared.scenario.NamedContract.{NamedContract}
+use Rattle.parties.specs.Plans.declared.scenario.NamedThread.{NamedThread}
+use Rattle.parties.specs.Plans.declared.scenario.Scenario.{Scenario}
 use Rattle.parties.specs.Answer.{Answer}
 use Rattle.parties.specs.Plays.{PlayedIntent, PlayedPlan}
 

@@ -1,9 +1,9 @@
 -- No reader needs this file: what holds while a play is set up, the invariants behind the clauses.
 use Rattle.std.specs.Prelude.{◌≡◌, List, ◌++◌, map}
 use Rattle.std.specs.List.{All, flat_map}
-use Rattle.eutxo_types.specs.declared.output_ref.OutputRef.{OutputRef}
-use Rattle.roles.specs.declared.published.Published.{Published}
-use Rattle.plans.specs.declared.scenario.NamedThread.{NamedThread}
+use Rattle.parties.specs.EutxoTypes.declared.output_ref.OutputRef.{OutputRef}
+use Rattle.parties.specs.LedgerSpec.Roles.declared.published.Published.{Published}
+use Rattle.parties.specs.Plans.declared.scenario.NamedThread.{NamedThread}
 use Rattle.parties.specs.Answer.{Answer}
 use Rattle.parties.specs.Seats.{SeatRecord, seat_record}
 use Rattle.play_setup.specs.SetUp.{Told, told, Begun, Begins, starts, start_output}

@@ -1,5 +1,5 @@
 //! Why a play isn't set up.
-use collections::Memory;
+use contract::Memory;
 use setup_refusals::SetupRefusal;
 use std::alloc::{AllocError, AllocFailed};
 

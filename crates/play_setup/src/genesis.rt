@@ -4,10 +4,8 @@ ghost use Rattle.play_setup.specs.SetUp.{course, key_output};
 
 use crate::fault::SetupFault;
 use crate::refusals::genesis_refused;
-use collections::{Items, Memory, TryClone};
-use eutxo_types::{Lock, Output};
-use parties::Chain;
-use plans::Funds;
+use contract::{Items, Memory, TryClone};
+use parties::{Chain, Funds, Lock, Output};
 use std::alloc::Global;
 
 /// A chain that begins with what the scenario's addresses have, at this tick: an output under the key of each.

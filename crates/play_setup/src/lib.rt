@@ -16,6 +16,10 @@ mod starts;
 
 pub use fault::SetupFault;
 pub use genesis::{first_chain, key_outputs};
+pub use json_read_scenarios::{read_scenario, read_scenario_within};
+pub use marlowe_refusals::json_fault_name;
 pub use naming::plan_on;
-pub use setup_refusals::{SetupRefusal, setup_line};
+pub use parties::BuildFault;
+pub use play_lines::{ThreadLine, played_lines};
+pub use setup_refusals::{Cause, SetupRefusal, setup_line, setup_members};
 pub use stage::{Stage, set_up};

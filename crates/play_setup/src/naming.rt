@@ -5,10 +5,8 @@ ghost use Rattle.contract.specs.declared.input.Input.{Input};
 ghost use Rattle.json_read_scenarios.specs.Named.{IntentNames, PlanNames};
 ghost use Rattle.play_setup.specs.SetUp.{start_at, currency_at, currencies, step_on, intent_on, plan_on};
 
-use collections::{Bytes, Items, Memory, TryClone};
-use contract::Input;
-use eutxo_types::OutputRef;
-use plans::{Intent, NamedContract, Plan};
+use contract::{Bytes, Input, Items, Memory, TryClone};
+use parties::{Intent, NamedContract, OutputRef, Plan};
 use std::alloc::Global;
 
 /// The plan with its threads named by their start outputs, and its contracts by their currencies.

@@ -1,16 +1,14 @@
 //! The contracts of a setup, published.
 ghost use Rattle.std.specs.Prelude.{◌≡◌, [], ◌∷◌, true, map, None, IfOk, OnOk};
 ghost use Rattle.contract.specs.Tree.{contract_tree};
-ghost use Rattle.compiler.specs.Limits.{compile_fault};
+ghost use Rattle.parties.specs.LedgerSpec.Compiler.Limits.{compile_fault};
 ghost use Rattle.play_setup.specs.SetUp.{object_of, publishes};
 ghost use Rattle.play_setup.specs.SetUpSupport.{WentOn};
 
 use crate::fault::SetupFault;
 use crate::refusals::{contract_in_use, contract_refused};
-use collections::{Memory, TryClone};
-use parties::{Call, Hub, Reply, Seat, Session, Watch};
-use plans::NamedContract;
-use roles::{Published, publish};
+use contract::{Memory, TryClone};
+use parties::{Call, Hub, NamedContract, Published, Reply, Seat, Session, Watch, publish};
 use std::alloc::Global;
 use std::sync::Wait;
 

@@ -4,14 +4,11 @@ ghost use Rattle.setup_refusals.specs.declared.refusal.SetupRefusal.TheVariants 
 ghost use Rattle.play_setup.specs.Refusals.{by_builder, by_compiler, by_genesis, by_rule, cause, compile_words, genesis_name, genesis_words, in_use};
 
 use crate::fault::{SetupFault, refused};
-use builder::BuildFault;
-use collections::{Memory, Text, TryClone};
-use eutxo_types::TxFault;
+use contract::{Memory, Text, TryClone};
 use fault_words::{build_words, rule_words};
 use marlowe_refusals::compile_fault_name;
-use parties::GenesisFault;
+use parties::{BuildFault, CompileFault, GenesisFault, TxFault};
 use play_lines::{build_fault_text, tx_fault_text};
-use roles::CompileFault;
 use setup_refusals::{Cause, SetupRefusal};
 use std::alloc::Global;
 

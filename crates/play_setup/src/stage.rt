@@ -6,10 +6,7 @@ ghost use Rattle.play_setup.specs.SetUp.{Begun, IsSetUp, object_of, start_output
 use crate::fault::SetupFault;
 use crate::publishing::publish_all;
 use crate::starts::start_all;
-use eutxo_types::OutputRef;
-use parties::{Hub, Seat, Session, Watch};
-use plans::Scenario;
-use roles::Published;
+use parties::{Hub, OutputRef, Published, Scenario, Seat, Session, Watch};
 use std::alloc::Global;
 use std::sync::Wait;
 

@@ -1,24 +1,22 @@
 //! The starts of a setup's threads.
 ghost use Rattle.std.specs.Prelude.{◌≡◌, ◌<◌, [], ◌∷◌, length, Ok, IfOk};
 ghost use Rattle.std.specs.List.{All};
-ghost use Rattle.eutxo_types.specs.declared.output_ref.OutputRef.TheVariants.{Made};
-ghost use Rattle.eutxo_types.specs.Ids.{id_of};
-ghost use Rattle.ledger.specs.declared.call.Call.TheVariants as on;
-ghost use Rattle.ledger.specs.declared.call.Reply.TheVariants as replies;
-ghost use Rattle.ledger.specs.declared.look.Look as looks;
-ghost use Rattle.plans.specs.declared.scenario.NamedThread.{NamedThread};
+ghost use Rattle.parties.specs.EutxoTypes.declared.output_ref.OutputRef.TheVariants.{Made};
+ghost use Rattle.parties.specs.EutxoTypes.Ids.{id_of};
+ghost use Rattle.parties.specs.Ledger.declared.call.Call.TheVariants as on;
+ghost use Rattle.parties.specs.Ledger.declared.call.Reply.TheVariants as replies;
+ghost use Rattle.parties.specs.Ledger.declared.look.Look as looks;
+ghost use Rattle.parties.specs.Plans.declared.scenario.NamedThread.{NamedThread};
 ghost use Rattle.play_setup.specs.SetUp.{key_ask, start_made};
 ghost use Rattle.play_setup.specs.SetUpSupport.{WentOn, WasStarted, WereStarted};
 
 use crate::fault::SetupFault;
 use crate::refusals::{rule_refused, start_refused};
-use builder::{Ask, BuildFault, Look, build_start};
-use collections::{Items, Memory, Text, TryClone};
-use contract::Interval;
-use eutxo_types::{OutputRef, Tx};
-use parties::{Call, Hub, Receipt, Reply, Seat, Session, Watch};
-use plans::NamedThread;
-use roles::Published;
+use contract::{Interval, Items, Memory, Text, TryClone};
+use parties::{
+    Ask, BuildFault, Call, Hub, Look, NamedThread, OutputRef, Published, Receipt, Reply, Seat,
+    Session, Tx, Watch, build_start,
+};
 use std::alloc::Global;
 use std::sync::Wait;
 

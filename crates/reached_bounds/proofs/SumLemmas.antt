@@ -2,7 +2,7 @@
 use Rattle.std.proofs.Common.{◌≡◌, ℕ, ◌+◌, ◌<◌, ◌≤◌, ℤ, pos, ◌+ℤ◌, List, [], ◌∷◌, ◌++◌, length, get_or, drop, sym, ap, ◌∙◌, arith}
 use Rattle.std.proofs.lemmas.Int.{ints}
 use Rattle.std.proofs.lemmas.List.{at_drop_more, at_drop_all}
-use Rattle.collections.specs.Total.{total}
+use Rattle.contract.specs.Collections.Total.{total}
 
 grouped : (w s f r n : ℤ) → w ≡ s +ℤ (f +ℤ r) → n ≡ s +ℤ f → w ≡ n +ℤ r
 grouped w s f r n e h = omega (arith, ints, e, h)

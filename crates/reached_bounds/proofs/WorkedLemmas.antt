@@ -4,14 +4,14 @@ use Rattle.std.proofs.lemmas.Int.{ints}
 use Rattle.std.specs.Option.{unwrap_or}
 use Rattle.std.specs.FinMap.{empty, entries, insert, get-empty, len-empty, len-entries, entries-insert}
 use Rattle.std.specs.FinMap.Entries.{put}
-use Rattle.names.specs.declared.account.Account.{Account}
-use Rattle.names.specs.declared.party.Party.{Party}
-use Rattle.names.specs.Equal.{ada}
-use Rattle.names.specs.Orders.{account_cmp}
-use Rattle.names.specs.Totals.{account_total}
+use Rattle.contract.specs.Names.declared.account.Account.{Account}
+use Rattle.contract.specs.Names.declared.party.Party.{Party}
+use Rattle.contract.specs.Names.Equal.{ada}
+use Rattle.contract.specs.Names.Orders.{account_cmp}
+use Rattle.contract.specs.Names.Totals.{account_total}
 use Rattle.contract.specs.declared.fault.SemFault.{SemFault}
 use Rattle.contract.specs.declared.fault.SemFault.TheVariants.{NoMatch}
-use Rattle.evaluation.specs.Numbers.{fits}
+use Rattle.semantics.specs.Evaluation.Numbers.{fits}
 use Rattle.semantics.specs.Walk.{Standing, standing}
 use Rattle.semantics.specs.Reduction.{account_of, balance}
 use Rattle.semantics.specs.Computed.{applied, one_input, from_start, computed}

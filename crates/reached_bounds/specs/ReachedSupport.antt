@@ -1,8 +1,8 @@
 -- What runs come to, as they are played. It serves proofs alone.
 use Rattle.std.specs.Prelude.{◌≡◌, ℤ, ◌++◌, true, List}
-use Rattle.collections.specs.Total.{total}
-use Rattle.names.specs.declared.party.Party.{Party}
-use Rattle.names.specs.declared.token.Token.{Token}
+use Rattle.contract.specs.Collections.Total.{total}
+use Rattle.contract.specs.Names.declared.party.Party.{Party}
+use Rattle.contract.specs.Names.declared.token.Token.{Token}
 use Rattle.contract.specs.declared.payment.Payment.{Payment}
 use Rattle.contract.specs.declared.transaction.Transaction.{Transaction}
 use Rattle.semantics.specs.Walk.{Standing}

@@ -1,7 +1,7 @@
 -- Worked runs that reach a bound, and such as don't.
 use Rattle.std.specs.Prelude.{◌≡◌, pos, [], ◌∷◌}
-use Rattle.names.specs.declared.payee.Payee.TheVariants.{Account as ToAccount}
-use Rattle.names.specs.Equal.{ada}
+use Rattle.contract.specs.Names.declared.payee.Payee.TheVariants.{Account as ToAccount}
+use Rattle.contract.specs.Names.Equal.{ada}
 use Rattle.contract.specs.declared.payment.Payment.{Payment}
 use Rattle.semantics.specs.Rows.{party_a, party_b, nothing}
 use Rattle.analysis_spec.specs.Runs.{paid_to}

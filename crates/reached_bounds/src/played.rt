@@ -6,8 +6,7 @@ ghost use Rattle.semantics.specs.Closing.{IsSpent};
 ghost use Rattle.analysis_spec.specs.Runs.{walk_from};
 ghost use Rattle.reached_bounds.specs.ReachedSupport.{IsPlayed};
 
-use collections::{Items, Memory, TryClone};
-use contract::{Contract, Outcome, Payment, SemFault, State, Transaction};
+use contract::{Contract, Items, Memory, Outcome, Payment, SemFault, State, Transaction, TryClone};
 use semantics::{Plain, Steps};
 use std::alloc::{AllocError, Global};
 

@@ -9,8 +9,7 @@ ghost use Rattle.reached_bounds.specs.ReachedSupport.{brought_by_all};
 use crate::played::{Played, play};
 use crate::sums::{brought, paid};
 use analysis_spec::PaidRange;
-use collections::Memory;
-use contract::{Contract, State, Transaction};
+use contract::{Contract, Memory, State, Transaction};
 use losses::Loss;
 use std::alloc::Global;
 

@@ -1,14 +1,12 @@
 //! What payments and deposits come to.
 ghost use Rattle.std.specs.Prelude.{◌≡◌, pos, cond, IfSome};
-ghost use Rattle.names.specs.Equal.{same_party, same_token};
-ghost use Rattle.states.specs.States.{counted};
+ghost use Rattle.contract.specs.Names.Equal.{same_party, same_token};
+ghost use Rattle.contract.specs.States.States.{counted};
 ghost use Rattle.analysis_spec.specs.Runs.{reaches_party, paid_to};
 ghost use Rattle.losses.specs.Losses.{brought, brought_by};
 ghost use Rattle.reached_bounds.specs.ReachedSupport.{brought_by_all};
 
-use collections::Same;
-use contract::{Input, Payment, Transaction};
-use names::{Party, Payee, Token};
+use contract::{Input, Party, Payee, Payment, Same, Token, Transaction};
 
 /// What payments pay a party of a token, if the sum has 128 bits.
 pub(crate) fn paid(party: &Party, token: &Token, payments: &[Payment]) -> Option<i128>

@@ -2,7 +2,7 @@
 ghost use Rattle.std.specs.Prelude.{◌≡◌, ◌++◌, IfOk, OnOk};
 ghost use Rattle.refusal_objects.specs.Objects.{behind, named, refused_line, refused_object};
 
-use collections::Memory;
+use contract::Memory;
 use std::alloc::Global;
 
 /// The members that say what is refused and the name of the fault. Both are words, without a character that JSON spells otherwise.

@@ -3,7 +3,7 @@ ghost use Rattle.std.specs.Prelude.{◌≡◌, IfOk};
 ghost use Rattle.refusal_objects.specs.Objects.{fault_members, fault_status, numbered, run_members, run_status, table_members, table_status, trace_members, trace_status};
 
 use crate::objects::named_members;
-use collections::Memory;
+use contract::Memory;
 use marlowe_refusals::{
     Fault, RunFault, TableFault, TraceFault, compile_fault_name, json_fault_name, sem_fault_name,
     write_fault_name,

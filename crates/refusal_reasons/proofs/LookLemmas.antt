@@ -1,10 +1,10 @@
 -- What a look at a text finds, by its JSON value or its fault.
 use Rattle.std.proofs.Common.{◌≡◌, ℕ, List, Result, Ok, Err, IfOk, refl, ap, subst, ◌∙◌}
 use Rattle.serde_json.specs.Data.{Data}
-use Rattle.collections.specs.Answers.{◌>>=◌}
-use Rattle.json_read_names.specs.Parts.{Reading}
-use Rattle.json_read_names.specs.ReadsText.{json_of, json_within, of_text, of_text_within}
-use Rattle.json_read_names.specs.declared.fault.JsonFault.{JsonFault}
+use Rattle.contract.specs.Collections.Answers.{◌>>=◌}
+use Rattle.explanations.specs.JsonReadNames.Parts.{Reading}
+use Rattle.explanations.specs.JsonReadNames.ReadsText.{json_of, json_within, of_text, of_text_within}
+use Rattle.explanations.specs.JsonReadNames.declared.fault.JsonFault.{JsonFault}
 use Rattle.refusal_reasons.specs.declared.looks.Look.{Look}
 use Rattle.refusal_reasons.specs.LooksSupport.{IsLook}
 

@@ -4,9 +4,9 @@ use Rattle.std.specs.Prelude.{slice_get}
 use Rattle.std.specs.Borrow.{Bor}
 use Rattle.std.specs.declared.vec.Vec.{Vec}
 use Rattle.std.specs.declared.alloc.Global.{Global}
-use Rattle.json_forms.specs.declared.sort.Sort.TheVariants as sorts
+use Rattle.explanations.specs.JsonForms.declared.sort.Sort.TheVariants as sorts
 use Rattle.refusal_reasons.specs.declared.source.Sources.{Sources}
-use Rattle.json_members.specs.declared.spelling.Spelling.{Spelling}
+use Rattle.explanations.specs.JsonMembers.declared.spelling.Spelling.{Spelling}
 use Rattle.refusal_reasons.specs.Reasons.{within, TellsText, TellsPieceOf, TellsPiece}
 
 -- of a piece under its path

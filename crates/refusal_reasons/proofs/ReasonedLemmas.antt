@@ -3,10 +3,10 @@ use Rattle.std.proofs.Common.{◌≡◌, ◌⊎◌, ℕ, List, [], Result, Ok, E
 use Rattle.std.specs.Prelude.{MatchResult}
 use Rattle.std.specs.declared.vec.Vec.{Vec}
 use Rattle.std.specs.declared.alloc.Global.{Global}
-use Rattle.collections.specs.Answers.{◌>>=◌}
-use Rattle.json_read_names.specs.declared.fault.JsonFault.{JsonFault}
-use Rattle.json_read_names.specs.Parts.{Reading}
-use Rattle.marlowe_refusals.specs.Faults.{read_as}
+use Rattle.contract.specs.Collections.Answers.{◌>>=◌}
+use Rattle.explanations.specs.JsonReadNames.declared.fault.JsonFault.{JsonFault}
+use Rattle.explanations.specs.JsonReadNames.Parts.{Reading}
+use Rattle.marlowe_explain.specs.MarloweRefusals.Faults.{read_as}
 use Rattle.std.specs.declared.alloc.AllocError.{AllocError}
 use Rattle.refusal_reasons.specs.declared.looks.Look.{Look}
 use Rattle.refusal_reasons.specs.declared.looks.Look.TheVariants.{Read, Told}

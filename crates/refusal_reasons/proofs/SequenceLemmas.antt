@@ -5,14 +5,14 @@ use Rattle.std.specs.declared.vec.Vec.{Vec}
 use Rattle.std.specs.declared.alloc.Global.{Global}
 use Rattle.contract.specs.declared.transaction.Transaction.{Transaction}
 use Rattle.contract.specs.Tree.{contract_tree}
-use Rattle.semantics.specs.Walk.{Standing, standing}
-use Rattle.analysis_spec.specs.declared.path.PathStep.{PathStep}
-use Rattle.analysis_spec.specs.Marks.{leads_after}
-use Rattle.trace.specs.Traces.{left_by}
-use Rattle.trace.specs.declared.sequence.Left.{Left}
-use Rattle.json_members.specs.declared.spelling.Spelling.{Spelling}
+use Rattle.marlowe_explain.specs.Semantics.Walk.{Standing, standing}
+use Rattle.marlowe_explain.specs.AnalysisSpec.declared.path.PathStep.{PathStep}
+use Rattle.marlowe_explain.specs.AnalysisSpec.Marks.{leads_after}
+use Rattle.marlowe_explain.specs.Trace.Traces.{left_by}
+use Rattle.marlowe_explain.specs.Trace.declared.sequence.Left.{Left}
+use Rattle.explanations.specs.JsonMembers.declared.spelling.Spelling.{Spelling}
 use Rattle.refusal_reasons.specs.declared.source.Over.{Over}
-use Rattle.json_read_transactions.specs.declared.fault.ReadFault.{ReadFault}
+use Rattle.marlowe_explain.specs.JsonReadTransactions.declared.fault.ReadFault.{ReadFault}
 use Rattle.refusal_reasons.specs.declared.source.Sources.{Sources}
 use Rattle.refusal_reasons.specs.Reasons.{TellsTransaction, TellsRefused, TellsOver, TellsRead, TellsThese, TellsUnread}
 

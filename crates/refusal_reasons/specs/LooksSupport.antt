@@ -1,7 +1,7 @@
 -- No reader needs this file: it serves the proofs of this crate.
 -- What a look at a text finds.
 use Rattle.std.specs.Prelude.{◌≡◌, ℕ, List, Result, Ok, Err, IfOk}
-use Rattle.json_read_names.specs.Parts.{Reading}
+use Rattle.explanations.specs.JsonReadNames.Parts.{Reading}
 use Rattle.refusal_reasons.specs.declared.looks.Look.{Look}
 use Rattle.refusal_reasons.specs.declared.looks.Look.TheVariants.{Read, Told}
 

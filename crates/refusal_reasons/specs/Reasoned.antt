@@ -1,12 +1,12 @@
 -- What a command answers, or why it refuses, with what explains that.
 use Rattle.std.specs.Prelude.{◌≡◌, ◌⊎◌, ℕ, List, [], Result, Ok, Err}
-use Rattle.collections.specs.Answers.{◌>>=◌}
-use Rattle.semantics.specs.Walk.{Standing}
-use Rattle.json_read_names.specs.ReadsText.{of_text}
-use Rattle.json_read_inputs.specs.ReadsInput.{transaction}
-use Rattle.marlowe_refusals.specs.Faults.{read_as, transaction_fault}
-use Rattle.marlowe_refusals.specs.declared.fault.RunFault.{RunFault}
-use Rattle.marlowe_run.specs.Run.{transaction_text}
+use Rattle.contract.specs.Collections.Answers.{◌>>=◌}
+use Rattle.marlowe_explain.specs.Semantics.Walk.{Standing}
+use Rattle.explanations.specs.JsonReadNames.ReadsText.{of_text}
+use Rattle.marlowe_explain.specs.JsonReadInputs.ReadsInput.{transaction}
+use Rattle.marlowe_explain.specs.MarloweRefusals.Faults.{read_as, transaction_fault}
+use Rattle.marlowe_explain.specs.MarloweRefusals.declared.fault.RunFault.{RunFault}
+use Rattle.marlowe_explain.specs.MarloweRun.Run.{transaction_text}
 use Rattle.refusal_reasons.specs.declared.reasoned.Reasoned.{Reasoned}
 use Rattle.refusal_reasons.specs.declared.reasoned.Reasoned.TheVariants.{Answer, Refused}
 

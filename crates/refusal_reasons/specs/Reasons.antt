@@ -5,23 +5,23 @@ use Rattle.std.specs.Option.{unwrap_or}
 use Rattle.contract.specs.Tree.{ContractTree, contract_tree}
 use Rattle.contract.specs.declared.interval.Interval.{Interval}
 use Rattle.contract.specs.declared.transaction.Transaction.{Transaction}
-use Rattle.semantics.specs.Walk.{Standing, standing}
-use Rattle.analysis_spec.specs.declared.path.PathStep.{PathStep}
-use Rattle.analysis_spec.specs.Marks.{leads_after}
-use Rattle.trace.specs.Traces.{left_by}
-use Rattle.json_read_names.specs.ReadsText.{of_text, of_text_within}
-use Rattle.json_read_contracts.specs.ReadsContract.{contract}
-use Rattle.json_read_inputs.specs.ReadsInput.{transaction}
-use Rattle.json_read_transactions.specs.ReadsTransactions.{transactions_of}
-use Rattle.json_read_transactions.specs.declared.fault.ReadFault.{ReadFault}
-use Rattle.json_read_transactions.specs.declared.fault.ReadFault.TheVariants as read_faults
-use Rattle.json_forms.specs.declared.sort.Numbers.{Numbers}
-use Rattle.json_forms.specs.declared.sort.Numbers.TheVariants as numbers
-use Rattle.json_forms.specs.declared.sort.Sort.{Sort}
-use Rattle.json_forms.specs.declared.sort.Sort.TheVariants as sorts
-use Rattle.marlowe_run.specs.Start.{start_of}
-use Rattle.marlowe_run.specs.declared.readable.Readable.{Readable}
-use Rattle.json_members.specs.declared.spelling.Spelling.{Spelling}
+use Rattle.marlowe_explain.specs.Semantics.Walk.{Standing, standing}
+use Rattle.marlowe_explain.specs.AnalysisSpec.declared.path.PathStep.{PathStep}
+use Rattle.marlowe_explain.specs.AnalysisSpec.Marks.{leads_after}
+use Rattle.marlowe_explain.specs.Trace.Traces.{left_by}
+use Rattle.explanations.specs.JsonReadNames.ReadsText.{of_text, of_text_within}
+use Rattle.marlowe_explain.specs.JsonReadContracts.ReadsContract.{contract}
+use Rattle.marlowe_explain.specs.JsonReadInputs.ReadsInput.{transaction}
+use Rattle.marlowe_explain.specs.JsonReadTransactions.ReadsTransactions.{transactions_of}
+use Rattle.marlowe_explain.specs.JsonReadTransactions.declared.fault.ReadFault.{ReadFault}
+use Rattle.marlowe_explain.specs.JsonReadTransactions.declared.fault.ReadFault.TheVariants as read_faults
+use Rattle.explanations.specs.JsonForms.declared.sort.Numbers.{Numbers}
+use Rattle.explanations.specs.JsonForms.declared.sort.Numbers.TheVariants as numbers
+use Rattle.explanations.specs.JsonForms.declared.sort.Sort.{Sort}
+use Rattle.explanations.specs.JsonForms.declared.sort.Sort.TheVariants as sorts
+use Rattle.marlowe_explain.specs.MarloweRun.Start.{start_of}
+use Rattle.marlowe_explain.specs.MarloweRun.declared.readable.Readable.{Readable}
+use Rattle.explanations.specs.JsonMembers.declared.spelling.Spelling.{Spelling}
 use Rattle.explanations.specs.declared.how.How.{How}
 use Rattle.explanations.specs.Explained as texts
 use Rattle.explain_tables.specs.Explained as tables

@@ -13,7 +13,11 @@ mod sequences;
 mod source;
 mod texts;
 
-pub use json_members::Spelling;
+pub use explanations::{
+    Json, JsonValue, Numbers, ScenarioSort, Sort, Spelling, Spot, Stop, Told, first_stop,
+    from_slice, has, keys_in, part_members, put_next,
+};
+pub use marlowe_explain::{Asked, Fault, Readable, TraceFault, beside_dropped, next, next_after};
 pub use reasoned::{Reasoned, run_reasoned, table_reasoned};
 pub use second_look::{reasons, table_reasons, table_told, transaction_told};
 pub use sequences::read_told;

@@ -1,22 +1,19 @@
 //! Texts that are read, or told of: each is read as JSON once.
 ghost use Rattle.std.specs.Prelude.{◌≡◌, Ok, IfOk};
-ghost use Rattle.collections.specs.Answers.{Aside};
+ghost use Rattle.contract.specs.Collections.Answers.{Aside};
 ghost use Rattle.serde_json.specs.Data.{Data};
 ghost use Rattle.json_tree.specs.View.{view};
-ghost use Rattle.json_read_names.specs.Parts.{Reading};
-ghost use Rattle.json_read_names.specs.ReadsText.{json_within, of_text, of_text_within};
-ghost use Rattle.json_forms.specs.declared.sort.Sort.{Sort};
+ghost use Rattle.explanations.specs.JsonReadNames.Parts.{Reading};
+ghost use Rattle.explanations.specs.JsonReadNames.ReadsText.{json_within, of_text, of_text_within};
+ghost use Rattle.explanations.specs.JsonForms.declared.sort.Sort.{Sort};
 ghost use Rattle.refusal_reasons.specs.Reasons.{TellsFlat, TellsText};
 ghost use Rattle.refusal_reasons.specs.LooksSupport.{IsLook};
 
 use crate::source::Source;
 use crate::texts::FLAT;
-use collections::Memory;
-use explanations::{How, explained_fault, explained_value};
+use contract::Memory;
+use explanations::{How, JsonFault, Sort, Spelling, explained_fault, explained_value, json_within};
 use json::Scratch;
-use json_forms::Sort;
-use json_members::Spelling;
-use json_read_names::{JsonFault, json_within};
 use json_tree::Json;
 use std::alloc::{AllocError, Global};
 

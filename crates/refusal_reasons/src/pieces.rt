@@ -4,14 +4,10 @@ ghost use Rattle.refusal_reasons.specs.Reasons.{TellsPiece, TellsPieceOf};
 
 use crate::source::{Source, Sources};
 use crate::texts::flat_told;
-use collections::Memory;
-use explanations::MAX_DEPTH;
+use contract::Memory;
+use explanations::{JsonFault, MAX_DEPTH, Sort, Spelling, beginning_of, json_of};
 use json::Scratch;
-use json_forms::Sort;
-use json_members::Spelling;
-use json_read_names::{JsonFault, json_of};
 use json_tree::JsonValue;
-use part_tokens::beginning_of;
 use std::alloc::{AllocError, Global};
 
 // How transactions stand in a text, and how many.

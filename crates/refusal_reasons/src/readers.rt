@@ -1,21 +1,21 @@
 //! What reads contracts, states and transactions.
 ghost use Rattle.std.specs.Prelude.{◌≡◌};
-ghost use Rattle.collections.specs.Answers.{Aside};
+ghost use Rattle.contract.specs.Collections.Answers.{Aside};
 ghost use Rattle.json_tree.specs.View.{view};
-ghost use Rattle.json_read_contracts.specs.ReadsContract as contract_reads;
-ghost use Rattle.json_read_inputs.specs.ReadsInput as input_reads;
-ghost use Rattle.json_forms.specs.declared.sort.Sort.TheVariants as sorts;
-ghost use Rattle.marlowe_run.specs.Start.{state_reading};
+ghost use Rattle.marlowe_explain.specs.JsonReadContracts.ReadsContract as contract_reads;
+ghost use Rattle.marlowe_explain.specs.JsonReadInputs.ReadsInput as input_reads;
+ghost use Rattle.explanations.specs.JsonForms.declared.sort.Sort.TheVariants as sorts;
+ghost use Rattle.marlowe_explain.specs.MarloweRun.Start.{state_reading};
 ghost use Rattle.refusal_reasons.specs.Reasons.{numbers_of};
 
 use crate::looks::TextReader;
 use contract::{Contract, State, Transaction};
-use contract_json::{
+use explanations::{Numbers, Sort};
+use json_tree::Json;
+use marlowe_explain::{
     JsonFault, contract_from_json, state_from_json, state_with_texts_from_json,
     transaction_from_json,
 };
-use json_forms::{Numbers, Sort};
-use json_tree::Json;
 use std::alloc::Global;
 
 /// Reads contracts.

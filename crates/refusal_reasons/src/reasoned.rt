@@ -1,11 +1,11 @@
 //! A run or a table whose refusal is explained at once, from what was read: no text is read twice.
 ghost use Rattle.std.specs.Prelude.{◌≡◌, [], true, Some, Err, IfOk, MatchResult};
 ghost use Rattle.contract.specs.Tree.{contract_tree};
-ghost use Rattle.semantics.specs.Walk.{standing};
-ghost use Rattle.json_write_contracts.specs.WrittenContract.{contract_fits};
-ghost use Rattle.marlowe_run.specs.Run.{run_from, run_within, transaction_text};
-ghost use Rattle.marlowe_run.specs.Start.{state_reading};
-ghost use Rattle.marlowe_run.specs.TableText.{printed_table, table_text_within};
+ghost use Rattle.marlowe_explain.specs.Semantics.Walk.{standing};
+ghost use Rattle.marlowe_explain.specs.JsonWriteContracts.WrittenContract.{contract_fits};
+ghost use Rattle.marlowe_explain.specs.MarloweRun.Run.{run_from, run_within, transaction_text};
+ghost use Rattle.marlowe_explain.specs.MarloweRun.Start.{state_reading};
+ghost use Rattle.marlowe_explain.specs.MarloweRun.TableText.{printed_table, table_text_within};
 ghost use Rattle.refusal_reasons.specs.Reasons.{Tells, TellsFrom, TellsIfRefused, TellsOfTable, TellsOne, TellsTable};
 ghost use Rattle.refusal_reasons.specs.Reasoned.{IsReasoned, run_behind};
 ghost use Rattle.refusal_reasons.specs.declared.source.Behind.TheVariants as behind;
@@ -14,13 +14,12 @@ use crate::looks::{Look, flat_look, look_at};
 use crate::readers::{Contracts, States, Transactions};
 use crate::second_look::{table_told, transaction_told};
 use crate::source::Source;
-use collections::Memory;
-use contract::{Contract, State, Transaction};
-use contract_json::what_is_read_within_can_be_written;
-use explanations::How;
-use json_members::Spelling;
-use marlowe_refusals::{RunFault, TableFault};
-use marlowe_run::{Readable, beside_dropped, outcome_text, printed_table};
+use contract::{Contract, Memory, State, Transaction};
+use explanations::{How, Spelling};
+use marlowe_explain::{
+    Readable, RunFault, TableFault, beside_dropped, outcome_text, printed_table,
+    what_is_read_within_can_be_written,
+};
 use std::alloc::{AllocError, Global};
 
 /// What a command answers, or why it refuses.

@@ -1,18 +1,16 @@
 //! The first text that isn't read, or what is refused once all are read.
 ghost use Rattle.std.specs.Prelude.{◌≡◌, [], Some, IfOk, MatchOption};
 ghost use Rattle.contract.specs.Tree.{contract_tree};
-ghost use Rattle.semantics.specs.Walk.{standing};
+ghost use Rattle.marlowe_explain.specs.Semantics.Walk.{standing};
 ghost use Rattle.refusal_reasons.specs.Reasons.{Tells, TellsFrom, TellsIfRefused, TellsNext, TellsOfTable, TellsOne, TellsTable};
 
 use crate::looks::{Look, flat_look, look_at};
 use crate::readers::{Contracts, States, Transactions};
 use crate::sequences::sequence_told;
 use crate::source::{Behind, Source};
-use collections::Memory;
-use contract::{Contract, State, Transaction};
-use explanations::How;
-use json_members::Spelling;
-use marlowe_run::{Readable, beside_dropped};
+use contract::{Contract, Memory, State, Transaction};
+use explanations::{How, Spelling};
+use marlowe_explain::{Readable, beside_dropped};
 use std::alloc::Global;
 
 /// Why a command refuses that reads a contract and then a state, if one is given, and has this behind them; `readable` tells which texts

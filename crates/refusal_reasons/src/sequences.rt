@@ -1,20 +1,18 @@
 //! Transactions one after another.
 ghost use Rattle.std.specs.Prelude.{◌≡◌, Some, IfOk, IfSome, slice_get};
 ghost use Rattle.contract.specs.Tree.{contract_tree};
-ghost use Rattle.semantics.specs.Walk.{standing};
+ghost use Rattle.marlowe_explain.specs.Semantics.Walk.{standing};
 ghost use Rattle.refusal_reasons.specs.Reasons.{TellsIfRefused, TellsMany, TellsOver, TellsRead, TellsRefused, TellsTransaction, interval_of};
 
 use crate::pieces::piece_told;
 use crate::second_look::written_if;
 use crate::source::{Over, Sources};
-use collections::{Items, Memory};
-use contract::{Contract, Interval, SemFault, State, Transaction};
-use json_members::Spelling;
-use json_read_transactions::{ReadFault, read_transactions};
-use marlowe_explain::explained_behind;
-use marlowe_run::beside_dropped;
+use contract::{Contract, Interval, Items, Memory, SemFault, State, Transaction};
+use explanations::Spelling;
+use marlowe_explain::{
+    Left, ReadFault, after, beside_dropped, explained_behind, read_transactions,
+};
 use std::alloc::{AllocError, Global};
-use trace::{Left, after};
 
 /// Why transactions of texts one after another are refused, or what may come behind them.
 #[tactic(auto, using(crate::proofs::SequenceLemmas::these_told, crate::proofs::SequenceLemmas::these_unread))]

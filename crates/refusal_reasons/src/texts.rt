@@ -3,10 +3,8 @@ ghost use Rattle.std.specs.Prelude.{IfOk};
 ghost use Rattle.refusal_reasons.specs.Reasons.{TellsFlat, TellsScenario};
 
 use crate::source::Source;
-use collections::Memory;
-use explanations::{How, explained, explained_scenario};
-use json_forms::Sort;
-use json_members::Spelling;
+use contract::Memory;
+use explanations::{How, Sort, Spelling, explained, explained_scenario};
 use std::alloc::Global;
 
 /// How deep lists and objects may nest in a state or a transaction.

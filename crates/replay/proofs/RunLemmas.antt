@@ -6,7 +6,7 @@ use Rattle.contract.specs.declared.fault.SemFault.TheVariants.{InvalidInterval, 
 use Rattle.contract.specs.declared.interval.Interval.{Interval}
 use Rattle.contract.specs.declared.transaction.Transaction.{Transaction}
 use Rattle.contract.specs.Tree.{ContractTree}
-use Rattle.states.specs.States.{StateMaps}
+use Rattle.contract.specs.States.States.{StateMaps}
 use Rattle.semantics.specs.Walk.{Standing, standing, Walk, answer_of}
 use Rattle.semantics.specs.Transaction.{trimmed}
 use Rattle.semantics.specs.Reduced.{fixed}

@@ -5,10 +5,10 @@ use Rattle.contract.specs.declared.fault.SemFault.{SemFault}
 use Rattle.contract.specs.declared.input.Input.{Input}
 use Rattle.contract.specs.declared.interval.Interval.{Interval}
 use Rattle.contract.specs.Tree.{ActionTree, ContractTree, CaseTrees, close, pay, if_obs, when, let_be, assert}
-use Rattle.states.specs.States.{StateMaps}
-use Rattle.evaluation.specs.Numbers.{all_fit, within}
-use Rattle.evaluation.specs.Path.{case_list, waits_for}
-use Rattle.evaluation.proofs.Numbers.{all_fit_append, within_ok}
+use Rattle.contract.specs.States.States.{StateMaps}
+use Rattle.semantics.specs.Evaluation.Numbers.{all_fit, within}
+use Rattle.semantics.specs.Evaluation.Path.{case_list, waits_for}
+use Rattle.semantics.proofs.FromEvaluation.Numbers.{all_fit_append, within_ok}
 use Rattle.semantics.specs.Walk.{Standing, standing, Walk, ended, then_walk}
 use Rattle.semantics.specs.Applying.{matches, tried, taken, taken_numbers, taken_warnings, taking}
 use Rattle.semantics.specs.Computed.{settled, first_match, first_match_index, tried_to_match, take_match, applied, one_input}

@@ -5,10 +5,10 @@ use Rattle.contract.specs.declared.input.Input.{Input}
 use Rattle.contract.specs.declared.interval.Interval.{Interval}
 use Rattle.contract.specs.declared.warning.Warning.{Warning}
 use Rattle.contract.specs.Tree.{ActionTree, ContractTree, if_obs, when}
-use Rattle.states.specs.States.{StateMaps}
-use Rattle.evaluation.specs.Evaluation.{holds}
-use Rattle.evaluation.specs.Numbers.{all_fit, within}
-use Rattle.evaluation.specs.Path.{waits_for}
+use Rattle.contract.specs.States.States.{StateMaps}
+use Rattle.semantics.specs.Evaluation.Evaluation.{holds}
+use Rattle.semantics.specs.Evaluation.Numbers.{all_fit, within}
+use Rattle.semantics.specs.Evaluation.Path.{waits_for}
 use Rattle.semantics.specs.Applying.{matches, tried}
 use Rattle.semantics.specs.Computed.{first_match, first_match_index}
 use Rattle.analysis_spec.specs.declared.kind.AlarmKind.{AlarmKind}

@@ -1,15 +1,14 @@
 //! Whether a transaction tells of an alarm at a place: it is followed along the steps that lead there, and nowhere else.
 ghost use Rattle.std.specs.Prelude.{◌≡◌, [], ◌∷◌, true, IfOk, IfNone, IfSome};
 ghost use Rattle.contract.specs.Tree.{contract_tree, observation_tree};
-ghost use Rattle.evaluation.specs.Evaluation.{holds};
+ghost use Rattle.semantics.specs.Evaluation.Evaluation.{holds};
 ghost use Rattle.replay.specs.ComingSupport.{ComesAhead, ComesHere, ComesBehind, GoesBy, branch, step_from};
 
 use crate::kinds::{is_leaving, warns};
 use crate::tries::{takes, tells_at_action};
 use analysis_spec::{AlarmKind, PathStep};
-use collections::Memory;
-use contract::{Contract, Input, Interval, Observation, SemFault, State};
-use evaluation::holds;
+use contract::{Contract, Input, Interval, Memory, Observation, SemFault, State};
+use semantics::evaluation::holds;
 use semantics::{Log, Plain, reduce};
 use std::alloc::{AllocError, Global};
 

@@ -1,7 +1,7 @@
 //! Runs that are played again.
 ghost use Rattle.std.specs.Prelude.{◌≡◌, ◌++◌, true, IfOk, IfSome};
 ghost use Rattle.contract.specs.Tree.{contract_tree};
-ghost use Rattle.collections.specs.Answers.{AsideBy};
+ghost use Rattle.contract.specs.Collections.Answers.{AsideBy};
 ghost use Rattle.semantics.specs.Walk.{standing, answer_of};
 ghost use Rattle.analysis_spec.specs.Runs.{walk_from};
 ghost use Rattle.analysis_spec.specs.Marks.{marks_of};
@@ -12,8 +12,7 @@ ghost use Rattle.analysis_spec.specs.Promises.{ComesAt};
 use crate::kinds::{is_leaving, warns};
 use crate::placed::comes;
 use analysis_spec::{Alarm, AlarmKind, PathStep};
-use collections::{Items, Memory};
-use contract::{Contract, Outcome, SemFault, State, Transaction};
+use contract::{Contract, Items, Memory, Outcome, SemFault, State, Transaction};
 use semantics::{Plain, Steps, fix};
 use std::alloc::{AllocError, Global};
 use trace::{Left, after};

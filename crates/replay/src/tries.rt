@@ -1,15 +1,14 @@
 //! Inputs that are tried at the cases of a When, up to the one that takes it.
 ghost use Rattle.std.specs.Prelude.{◌≡◌, ◌<◌, true, length, IfOk, IfSome};
 ghost use Rattle.contract.specs.Tree.{contract_tree};
-ghost use Rattle.evaluation.specs.Path.{waits_for};
+ghost use Rattle.semantics.specs.Evaluation.Path.{waits_for};
 ghost use Rattle.semantics.specs.Applying.{taken_numbers, taken_warnings};
 ghost use Rattle.replay.specs.ComingSupport.{ComesAtAction, IsTaken, IsToldBy, PassesBy, TakenBy, TriedTo, waits};
 
 use crate::kinds::{is_leaving, warns};
 use analysis_spec::AlarmKind;
-use collections::Memory;
-use contract::{Contract, Input, Interval, SemFault, State};
-use evaluation::Parts;
+use contract::{Contract, Input, Interval, Memory, SemFault, State};
+use semantics::evaluation::Parts;
 use semantics::{Log, Plain, matches, take};
 use std::alloc::{AllocError, Global};
 

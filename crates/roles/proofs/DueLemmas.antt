@@ -3,8 +3,8 @@ use Rattle.std.proofs.Common.{◌≡◌, ℕ, suc, ◌+◌, ◌<◌, List, sym, 
 use Rattle.std.specs.Prelude.{if◌then◌else◌, is_some}
 use Rattle.std.proofs.lemmas.List.{at_drop_more}
 use Rattle.contract.specs.declared.payment.Payment.{Payment}
-use Rattle.names.specs.declared.party.Party.{Party}
-use Rattle.eutxo_types.specs.declared.output.Output.{Output}
+use Rattle.contract.specs.Names.declared.party.Party.{Party}
+use Rattle.eutxo.specs.EutxoTypes.declared.output.Output.{Output}
 use Rattle.roles.specs.Steps.{and_owed_output, due_to, due_outputs}
 
 -- what is due from a payment on begins with what is due for it

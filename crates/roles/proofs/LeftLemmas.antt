@@ -9,11 +9,11 @@ use Rattle.std.specs.Option.{unwrap_or}
 use Rattle.std.specs.Ordering.{is_eq, int_eq, eq_by_cmp}
 use Rattle.std.specs.declared.cmp.Ordering.TheVariants.{Less, Equal, Greater}
 use Rattle.std.specs.FinMap.Entries.{find, is_sorted}
-use Rattle.collections.proofs.Places.{IsAt, IsGap, second, third, find_below, find_gap, below_equal}
-use Rattle.names.specs.declared.token.Token.{Token}
-use Rattle.names.specs.Orders.{token_cmp}
-use Rattle.names.specs.Totals.{token_total}
-use Rattle.names.proofs.Exact.{token_exact}
+use Rattle.contract.proofs.FromCollections.Places.{IsAt, IsGap, second, third, find_below, find_gap, below_equal}
+use Rattle.contract.specs.Names.declared.token.Token.{Token}
+use Rattle.contract.specs.Names.Orders.{token_cmp}
+use Rattle.contract.specs.Names.Totals.{token_total}
+use Rattle.contract.proofs.FromNames.Exact.{token_exact}
 use Rattle.roles.specs.LeftSupport.{left_of}
 
 -- at first there is left what the entries have

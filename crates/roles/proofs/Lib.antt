@@ -6,3 +6,6 @@ pub mod PutLaws
 pub mod PublicationsLemmas
 mod DueLemmas
 mod WorkedLemmas
+pub mod FromSemantics
+pub mod FromBundle
+pub mod FromEutxo

@@ -1,11 +1,11 @@
 -- A test that tells two outputs apart.
 use Rattle.std.proofs.Common.{◌≡◌, ◌↔◌, IsTrue, Bool, Result, Ok, Err}
 use Rattle.std.specs.Prelude.{IfOk}
-use Rattle.collections.proofs.SameLaws.{same_by_from}
-use Rattle.eutxo_types.specs.declared.output.Output.{Output}
-use Rattle.eutxo_types.specs.contracts.output.Output as outputs
-use Rattle.bundle.specs.Bundles.{Amounts}
-use Rattle.bundle.specs.contracts.bundle.Bundle as bundles
+use Rattle.contract.proofs.FromCollections.SameLaws.{same_by_from}
+use Rattle.eutxo.specs.EutxoTypes.declared.output.Output.{Output}
+use Rattle.eutxo.specs.EutxoTypes.contracts.output.Output as outputs
+use Rattle.eutxo.specs.Bundle.Bundles.{Amounts}
+use Rattle.eutxo.specs.Bundle.contracts.bundle.Bundle as bundles
 use Rattle.roles.specs.Steps.{same_output, same_amounts}
 
 pub decided : {E : Type 0} (r : Result Bool E) (x y : Output) → IfOk r (λ a. IsTrue a ↔ (x ≡ y)) → IfOk r (λ a. a ≡ same_output x y)

@@ -4,19 +4,19 @@ use Rattle.std.proofs.Math.Seq.{take-append_seam}
 use Rattle.std.specs.Prelude.{if◌then◌else◌}
 use Rattle.std.specs.List.{slice_get}
 use Rattle.std.specs.Cmp.Lexicographic.{bytes_decides}
-use Rattle.collections.proofs.SameLaws.{same_by_decides}
-use Rattle.names.specs.Equal.{same_bytes}
-use Rattle.bundle.specs.Bundles.{Amounts}
-use Rattle.bundle.specs.contracts.bundle.Bundle as bundles
-use Rattle.machine.specs.declared.datum.Datum.{Datum}
-use Rattle.machine.specs.contracts.datum.Datum as datums
-use Rattle.eutxo_types.specs.contracts.output.Output as outputs
-use Rattle.eutxo_types.specs.declared.lock.Lock.{Lock}
-use Rattle.eutxo_types.specs.declared.lock.Lock.TheVariants.{Key, Payout, Contract}
-use Rattle.eutxo_types.specs.declared.output.Output.{Output}
-use Rattle.eutxo_types.specs.declared.tx.Tx.{Tx}
-use Rattle.eutxo_types.specs.Digests.{datum_hash}
-use Rattle.eutxo_types.specs.Parts.{ContractLock, contract_in, Instance, lock_of, contract_at}
+use Rattle.contract.proofs.FromCollections.SameLaws.{same_by_decides}
+use Rattle.contract.specs.Names.Equal.{same_bytes}
+use Rattle.eutxo.specs.Bundle.Bundles.{Amounts}
+use Rattle.eutxo.specs.Bundle.contracts.bundle.Bundle as bundles
+use Rattle.eutxo.specs.Machine.declared.datum.Datum.{Datum}
+use Rattle.eutxo.specs.Machine.contracts.datum.Datum as datums
+use Rattle.eutxo.specs.EutxoTypes.contracts.output.Output as outputs
+use Rattle.eutxo.specs.EutxoTypes.declared.lock.Lock.{Lock}
+use Rattle.eutxo.specs.EutxoTypes.declared.lock.Lock.TheVariants.{Key, Payout, Contract}
+use Rattle.eutxo.specs.EutxoTypes.declared.output.Output.{Output}
+use Rattle.eutxo.specs.EutxoTypes.declared.tx.Tx.{Tx}
+use Rattle.eutxo.specs.EutxoTypes.Digests.{datum_hash}
+use Rattle.eutxo.specs.EutxoTypes.Parts.{ContractLock, contract_in, Instance, lock_of, contract_at}
 use Rattle.roles.specs.Sums.{sums_of}
 use Rattle.roles.specs.Steps.{same_output, same_amounts, same_datum, is_instance, holds_just, goes_on_in, first_unpaid}
 use Rattle.roles.specs.Owed.{standing_at, IsMadeWithSums, GoesOnWhereMade, MadeAreContinuations, PaidInDueOutputs}

@@ -4,15 +4,15 @@ use Rattle.std.specs.Prelude.{nat_le, MatchOption}
 use Rattle.std.specs.Result.{IsOkUnless}
 use Rattle.std.proofs.lemmas.Bool.Decides.{nat_tests}
 use Rattle.contract.specs.Tree.{ContractTree}
-use Rattle.nodes.specs.declared.cont.Cont.{Cont}
-use Rattle.table.specs.Flat.{Flat, cont_tree}
-use Rattle.table.specs.Heights.{contract_height}
-use Rattle.table.specs.AlongLaws.{has_is, turns_lead}
+use Rattle.compiler.specs.Nodes.declared.cont.Cont.{Cont}
+use Rattle.compiler.specs.Table.Flat.{Flat, cont_tree}
+use Rattle.compiler.specs.Table.Heights.{contract_height}
+use Rattle.compiler.specs.Table.AlongLaws.{has_is, turns_lead}
 use Rattle.compiler.specs.declared.fault.CompileFault.{CompileFault}
 use Rattle.compiler.specs.declared.fault.CompileFault.TheVariants.{TooDeep, Memory}
-use Rattle.lowering.specs.Code.{code}
+use Rattle.compiler.specs.Lowering.Code.{code}
 use Rattle.compiler.specs.Limits.{compile_fault}
-use Rattle.lowering.specs.Laws.{CodesStand}
+use Rattle.compiler.specs.Lowering.Laws.{CodesStand}
 use Rattle.roles.specs.declared.published.Published.{Published}
 use Rattle.roles.specs.Publications.{PublishedAreTables, PublishedTellApart}
 use Rattle.roles.specs.Terms.{IsTable, terms_of}

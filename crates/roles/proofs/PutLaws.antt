@@ -1,6 +1,6 @@
 -- Writers that put items behind what was there, one after another.
 use Rattle.std.proofs.Common.{◌≡◌, List, ◌++◌, append_assoc, sym, ◌∙◌, ap, Result, Ok, Err, OnErr}
-use Rattle.contract_bytes.specs.Writing.{AppendsFront}
+use Rattle.eutxo.specs.ContractBytes.Writing.{AppendsFront}
 
 -- a front of what is to be put stands behind what was there, and what is left makes it whole
 abbrev pub IsPut : {X : Type 0} → List X → List X → List X → List X → Type 0

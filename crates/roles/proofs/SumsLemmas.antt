@@ -9,20 +9,20 @@ use Rattle.std.specs.Cmp.{tied_itself}
 use Rattle.std.specs.declared.cmp.Ordering.TheVariants.{Less, Equal, Greater}
 use Rattle.std.specs.FinMap.{FinMap, empty, entries, insert, from_sorted, same_entries_map, entries-insert, entries-from_sorted, get-empty, get-entries, entries_sorted}
 use Rattle.std.specs.FinMap.Entries.{put}
-use Rattle.collections.specs.Total.{total}
-use Rattle.collections.proofs.Maps.{no_entries}
-use Rattle.collections.proofs.Total.{entries-remove}
-use Rattle.names.specs.declared.token.Token.{Token}
-use Rattle.names.specs.declared.account.Account.{Account}
-use Rattle.names.specs.Orders.{token_cmp}
-use Rattle.names.specs.Totals.{token_total}
-use Rattle.names.proofs.Exact.{token_exact}
-use Rattle.states.specs.States as states
-use Rattle.states.specs.States.{in_token}
-use Rattle.bundle.specs.Bundles.{Amounts, amount_of, AllPositive}
-use Rattle.bundle.proofs.AmountLaws.{amount_of-with_amount, by_zero}
-use Rattle.bundle.proofs.PositiveLaws.{AllPositive-put, AllPositive-where_key}
-use Rattle.bundle.proofs.ApartLaws.{amounts_tell_apart}
+use Rattle.contract.specs.Collections.Total.{total}
+use Rattle.contract.proofs.FromCollections.Maps.{no_entries}
+use Rattle.contract.proofs.FromCollections.Total.{entries-remove}
+use Rattle.contract.specs.Names.declared.token.Token.{Token}
+use Rattle.contract.specs.Names.declared.account.Account.{Account}
+use Rattle.contract.specs.Names.Orders.{token_cmp}
+use Rattle.contract.specs.Names.Totals.{token_total}
+use Rattle.contract.proofs.FromNames.Exact.{token_exact}
+use Rattle.contract.specs.States.States as states
+use Rattle.contract.specs.States.States.{in_token}
+use Rattle.eutxo.specs.Bundle.Bundles.{Amounts, amount_of, AllPositive}
+use Rattle.eutxo.proofs.FromBundle.AmountLaws.{amount_of-with_amount, by_zero}
+use Rattle.eutxo.proofs.FromBundle.PositiveLaws.{AllPositive-put, AllPositive-where_key}
+use Rattle.eutxo.proofs.FromBundle.ApartLaws.{amounts_tell_apart}
 use Rattle.roles.specs.LeftSupport.{left_of, IsTaken}
 use Rattle.roles.specs.Sums.{sums_in}
 use Rattle.roles.specs.Steps.{only}

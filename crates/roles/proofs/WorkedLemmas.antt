@@ -4,13 +4,13 @@ use Rattle.std.specs.Prelude.{if◌then◌else◌, int_lt}
 use Rattle.std.proofs.lemmas.Bool.{eq-eqb}
 use Rattle.std.specs.FinMap as map
 use Rattle.std.specs.FinMap.{entries, entries-from_sorted}
-use Rattle.collections.proofs.SameLaws.{same_by_decides}
-use Rattle.collections.proofs.Maps.{no_entries}
-use Rattle.bundle.specs.contracts.bundle.Bundle as bundles
-use Rattle.names.specs.Orders.{bytes_cmp, account_cmp, choice_id_cmp}
-use Rattle.names.specs.declared.party.Party.{Party}
-use Rattle.eutxo_types.specs.contracts.output.Output as outputs
-use Rattle.eutxo_types.specs.declared.output.Output.{Output}
+use Rattle.contract.proofs.FromCollections.SameLaws.{same_by_decides}
+use Rattle.contract.proofs.FromCollections.Maps.{no_entries}
+use Rattle.eutxo.specs.Bundle.contracts.bundle.Bundle as bundles
+use Rattle.contract.specs.Names.Orders.{bytes_cmp, account_cmp, choice_id_cmp}
+use Rattle.contract.specs.Names.declared.party.Party.{Party}
+use Rattle.eutxo.specs.EutxoTypes.contracts.output.Output as outputs
+use Rattle.eutxo.specs.EutxoTypes.declared.output.Output.{Output}
 use Rattle.eutxo.specs.Faults.{is_empty}
 use Rattle.roles.specs.Sums.{sums_in}
 use Rattle.roles.specs.Steps.{same_output, same_amounts, owed_output, and_owed_output, due_to, due_outputs}

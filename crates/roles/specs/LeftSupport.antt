@@ -1,7 +1,7 @@
 -- No reader needs this file: it serves the proof that an amount is compared with the accounts that it has to hold.
 use Rattle.std.specs.Prelude.{◌≡◌, ℤ, pos, ◌-ℤ◌, cond, List, [], ◌∷◌}
-use Rattle.names.specs.declared.token.Token.{Token}
-use Rattle.names.specs.Equal.{same_token}
+use Rattle.contract.specs.Names.declared.token.Token.{Token}
+use Rattle.contract.specs.Names.Equal.{same_token}
 
 -- how much is left of a token, of entries with what is left of each
 abbrev pub left_of : List (Token × ℤ) → List ℤ → Token → ℤ

@@ -1,9 +1,9 @@
 -- What a step owes is recognised exactly where it stands as it is made.
 use Rattle.std.specs.Prelude.{◌≡◌, ◌↔◌, ℕ, List, length, take, Some, None, slice_get, IsTrue}
-use Rattle.machine.specs.declared.datum.Datum.{Datum}
-use Rattle.eutxo_types.specs.declared.output.Output.{Output}
-use Rattle.eutxo_types.specs.declared.tx.Tx.{Tx}
-use Rattle.eutxo_types.specs.Parts.{contract_in, Instance, lock_of, contract_at}
+use Rattle.eutxo.specs.Machine.declared.datum.Datum.{Datum}
+use Rattle.eutxo.specs.EutxoTypes.declared.output.Output.{Output}
+use Rattle.eutxo.specs.EutxoTypes.declared.tx.Tx.{Tx}
+use Rattle.eutxo.specs.EutxoTypes.Parts.{contract_in, Instance, lock_of, contract_at}
 use Rattle.roles.specs.Sums.{sums_of}
 use Rattle.roles.specs.Steps.{continuation, goes_on_in, first_unpaid}
 

@@ -2,9 +2,9 @@
 use Rattle.std.specs.Prelude.{◌≡◌, ℕ, List, ◌++◌, None}
 use Rattle.sha2.specs.Sha256.{sha256}
 use Rattle.contract.specs.Tree.{ContractTree}
-use Rattle.contract_bytes.specs.Numbers.{text_bytes}
-use Rattle.contract_bytes.specs.Trees.{contract_bytes}
-use Rattle.lowering.specs.Code.{code}
+use Rattle.eutxo.specs.ContractBytes.Numbers.{text_bytes}
+use Rattle.eutxo.specs.ContractBytes.Trees.{contract_bytes}
+use Rattle.compiler.specs.Lowering.Code.{code}
 use Rattle.compiler.specs.Limits.{compile_fault}
 use Rattle.roles.specs.declared.published.Published.{Published}
 use Rattle.roles.specs.Terms.{IsTable, terms_of}

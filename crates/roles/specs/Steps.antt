@@ -3,42 +3,42 @@ use Rattle.std.specs.Prelude.{ℕ, ◌+◌, ℤ, pos, int_lt, ◌==◌, Bool, tr
 use Rattle.std.specs.List.{list_any, filter_map, find}
 use Rattle.std.specs.FinMap as map
 use Rattle.std.specs.FinMap.{entries}
-use Rattle.collections.specs.Same.{same_by}
-use Rattle.names.specs.declared.party.Party.{Party}
-use Rattle.names.specs.declared.party.Party.TheVariants.{Address, Role}
-use Rattle.names.specs.declared.payee.Payee.{Payee}
-use Rattle.names.specs.declared.payee.Payee.TheVariants as to
-use Rattle.names.specs.declared.token.Token.{Token}
+use Rattle.contract.specs.Collections.Same.{same_by}
+use Rattle.contract.specs.Names.declared.party.Party.{Party}
+use Rattle.contract.specs.Names.declared.party.Party.TheVariants.{Address, Role}
+use Rattle.contract.specs.Names.declared.payee.Payee.{Payee}
+use Rattle.contract.specs.Names.declared.payee.Payee.TheVariants as to
+use Rattle.contract.specs.Names.declared.token.Token.{Token}
 use Rattle.contract.specs.declared.fault.SemFault.{SemFault}
 use Rattle.contract.specs.declared.fault.SemFault.TheVariants.{NoMatch}
 use Rattle.contract.specs.declared.input.Input.{Input}
 use Rattle.contract.specs.declared.input.Input.TheVariants.{Deposit, Choice, Notify}
 use Rattle.contract.specs.declared.payment.Payment.{Payment}
-use Rattle.states.specs.States.{StateMaps}
-use Rattle.semantics.specs.Walk.{Standing, Walk, answer_of}
-use Rattle.semantics.specs.Computed.{computed}
-use Rattle.bundle.specs.Bundles.{Amounts, amount_of}
-use Rattle.bundle.specs.contracts.bundle.Bundle as bundles
-use Rattle.nodes.specs.declared.cont.Cont.{Cont}
-use Rattle.machine.specs.declared.datum.Datum.{Datum}
-use Rattle.machine.specs.contracts.datum.Datum as datums
-use Rattle.names.specs.Equal.{same_bytes}
+use Rattle.contract.specs.States.States.{StateMaps}
+use Rattle.eutxo.specs.Semantics.Walk.{Standing, Walk, answer_of}
+use Rattle.eutxo.specs.Semantics.Computed.{computed}
+use Rattle.eutxo.specs.Bundle.Bundles.{Amounts, amount_of}
+use Rattle.eutxo.specs.Bundle.contracts.bundle.Bundle as bundles
+use Rattle.compiler.specs.Nodes.declared.cont.Cont.{Cont}
+use Rattle.eutxo.specs.Machine.declared.datum.Datum.{Datum}
+use Rattle.eutxo.specs.Machine.contracts.datum.Datum as datums
+use Rattle.contract.specs.Names.Equal.{same_bytes}
 use Rattle.eutxo.specs.declared.step_fault.StepFault.{StepFault}
 use Rattle.eutxo.specs.declared.step_fault.StepFault.TheVariants.{NotAuthorised, WrongContinuation, WrongPayment}
-use Rattle.eutxo_types.specs.declared.lock.Lock.{Lock}
-use Rattle.eutxo_types.specs.declared.lock.Lock.TheVariants.{Key, Payout, Contract}
-use Rattle.eutxo_types.specs.declared.output.Output.{Output}
-use Rattle.eutxo_types.specs.contracts.output.Output as outputs
-use Rattle.eutxo_types.specs.declared.spend.Spend.{Spend}
-use Rattle.eutxo_types.specs.declared.tx.Tx.{Tx}
+use Rattle.eutxo.specs.EutxoTypes.declared.lock.Lock.{Lock}
+use Rattle.eutxo.specs.EutxoTypes.declared.lock.Lock.TheVariants.{Key, Payout, Contract}
+use Rattle.eutxo.specs.EutxoTypes.declared.output.Output.{Output}
+use Rattle.eutxo.specs.EutxoTypes.contracts.output.Output as outputs
+use Rattle.eutxo.specs.EutxoTypes.declared.spend.Spend.{Spend}
+use Rattle.eutxo.specs.EutxoTypes.declared.tx.Tx.{Tx}
 use Rattle.eutxo.specs.declared.validator.StepAnswer.{StepAnswer}
 use Rattle.eutxo.specs.declared.validator.StepAnswer.TheVariants as answers
-use Rattle.eutxo_types.specs.Digests.{datum_hash}
-use Rattle.eutxo_types.specs.Parts.{is_key, Instance, contract_at, outputs_from}
+use Rattle.eutxo.specs.EutxoTypes.Digests.{datum_hash}
+use Rattle.eutxo.specs.EutxoTypes.Parts.{is_key, Instance, contract_at, outputs_from}
 use Rattle.eutxo.specs.Faults.{fault_if, first_of, is_empty}
 use Rattle.eutxo.specs.Rules.{has_signed}
 use Rattle.eutxo.specs.Asked.{Stepping, Judges}
-use Rattle.table.specs.Flat.{is_close}
+use Rattle.compiler.specs.Table.Flat.{is_close}
 use Rattle.roles.specs.Sums.{sums_of}
 use Rattle.roles.specs.Terms.{Terms, terms_of}
 use Rattle.roles.specs.declared.published.Published.{Published}

@@ -1,11 +1,11 @@
 -- What the accounts of a state hold together, token by token.
 use Rattle.std.specs.Prelude.{◌≡◌, ℤ, ◌+ℤ◌, List, [], ◌∷◌}
 use Rattle.std.specs.FinMap as map
-use Rattle.collections.specs.Positive.{AllPositive}
-use Rattle.names.specs.declared.account.Account.{Account}
-use Rattle.names.specs.declared.token.Token.{Token}
-use Rattle.states.specs.States.{StateMaps, total_of}
-use Rattle.bundle.specs.Bundles.{Amounts, amount_of, with_amount}
+use Rattle.contract.specs.Collections.Positive.{AllPositive}
+use Rattle.contract.specs.Names.declared.account.Account.{Account}
+use Rattle.contract.specs.Names.declared.token.Token.{Token}
+use Rattle.contract.specs.States.States.{StateMaps, total_of}
+use Rattle.eutxo.specs.Bundle.Bundles.{Amounts, amount_of, with_amount}
 
 abbrev pub sums_in : List (Account × ℤ) → Amounts
 sums_in [] = map.empty

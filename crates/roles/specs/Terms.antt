@@ -2,10 +2,10 @@
 -- contract starts, and the currency of its roles' tokens.
 use Rattle.std.specs.Prelude.{◌≡◌, ℕ, Bool, true, List, Some}
 use Rattle.contract.specs.Tree.{ContractTree}
-use Rattle.evaluation.specs.Path.{Turn, along}
-use Rattle.nodes.specs.declared.cont.Cont.{Cont}
-use Rattle.table.specs.Flat.{cont_tree}
-use Rattle.table.specs.Along.{has_cont, cont_at}
+use Rattle.compiler.specs.Evaluation.Path.{Turn, along}
+use Rattle.compiler.specs.Nodes.declared.cont.Cont.{Cont}
+use Rattle.compiler.specs.Table.Flat.{cont_tree}
+use Rattle.compiler.specs.Table.Along.{has_cont, cont_at}
 use Rattle.roles.specs.declared.published.Published.{Published}
 
 pub record Terms : Type 0 where

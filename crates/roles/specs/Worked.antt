@@ -1,18 +1,18 @@
 -- The definitions on small steps.
 use Rattle.std.specs.Prelude.{◌≡◌, ℕ, ℤ, pos, true, false, List, [], ◌∷◌, Some, None}
 use Rattle.std.specs.FinMap as map
-use Rattle.names.specs.declared.party.Party.{Party}
-use Rattle.names.specs.declared.party.Party.TheVariants.{Address, Role}
-use Rattle.names.specs.declared.payee.Payee.TheVariants as to
+use Rattle.contract.specs.Names.declared.party.Party.{Party}
+use Rattle.contract.specs.Names.declared.party.Party.TheVariants.{Address, Role}
+use Rattle.contract.specs.Names.declared.payee.Payee.TheVariants as to
 use Rattle.contract.specs.declared.input.Input.TheVariants.{Notify}
 use Rattle.contract.specs.declared.payment.Payment.{Payment}
-use Rattle.states.specs.States.{StateMaps}
-use Rattle.bundle.specs.Bundles.{Amounts, amount_of}
-use Rattle.nodes.specs.declared.cont.Cont.{Cont}
-use Rattle.machine.specs.declared.datum.Datum.{Datum}
-use Rattle.eutxo_types.specs.declared.lock.Lock.TheVariants.{Key, Payout}
-use Rattle.eutxo_types.specs.declared.output.Output.{Output}
-use Rattle.eutxo_types.specs.declared.spend.Spend.{Spend}
+use Rattle.contract.specs.States.States.{StateMaps}
+use Rattle.eutxo.specs.Bundle.Bundles.{Amounts, amount_of}
+use Rattle.compiler.specs.Nodes.declared.cont.Cont.{Cont}
+use Rattle.eutxo.specs.Machine.declared.datum.Datum.{Datum}
+use Rattle.eutxo.specs.EutxoTypes.declared.lock.Lock.TheVariants.{Key, Payout}
+use Rattle.eutxo.specs.EutxoTypes.declared.output.Output.{Output}
+use Rattle.eutxo.specs.EutxoTypes.declared.spend.Spend.{Spend}
 use Rattle.roles.specs.Sums.{sums_of}
 use Rattle.roles.specs.Steps.{same_output, role_token, authorised, unauthorised, lock_for, owed_output, due_above, due_to, due_outputs, first_unpaid, starts_from}
 

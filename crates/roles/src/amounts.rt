@@ -4,16 +4,15 @@ ghost use Rattle.std.proofs.Math.Dec.{T};
 ghost use Rattle.std.specs.List.{list_all};
 ghost use Rattle.std.specs.Ordering.{int_eq};
 ghost use Rattle.std.specs.FinMap.{is_sorted};
-ghost use Rattle.names.specs.Orders.{token_cmp};
-ghost use Rattle.collections.proofs.Places.{IsAt, IsGap};
+ghost use Rattle.contract.specs.Names.Orders.{token_cmp};
+ghost use Rattle.contract.proofs.FromCollections.Places.{IsAt, IsGap};
 ghost use Rattle.roles.specs.LeftSupport.{left_of, IsTaken};
 ghost use Rattle.roles.specs.Sums.{sums_of};
 ghost use Rattle.roles.specs.Steps.{only, same_amounts};
 
-use bundle::Bundle;
-use collections::{Entries, Memory, Same};
-use contract::{Account, State};
-use names::{Token, compare_tokens};
+use contract::names::{Token, compare_tokens};
+use contract::{Account, Entries, Memory, Same, State};
+use eutxo::Bundle;
 use std::alloc::Global;
 
 // How much each entry has, in order.

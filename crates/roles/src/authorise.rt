@@ -1,10 +1,9 @@
 //! Who may act.
 ghost use Rattle.std.specs.Prelude.{◌≡◌, option_copied, int_lt, pos};
-ghost use Rattle.bundle.specs.Bundles.{amount_of};
+ghost use Rattle.eutxo.specs.Bundle.Bundles.{amount_of};
 ghost use Rattle.roles.specs.Steps.{role_token, shows, holds_role, actor, authorised, unauthorised};
 
-use collections::{Bytes, Text};
-use contract::{Input, Party};
+use contract::{Bytes, Input, Party, Text};
 use eutxo::{Spent, has_signed};
 
 // Whether an input's output is under a key and holds a token.

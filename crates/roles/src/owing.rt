@@ -1,15 +1,13 @@
 //! The outputs that a step owes: the one in which the contract goes on, and those that are due for its payments. Here
 //! they are made, for who builds a step, and told from others, for who judges one, by the same definitions.
 ghost use Rattle.std.specs.Prelude.{◌≡◌, ◌+◌, ◌++◌, ◌<ℤ◌, ◌↔◌, pos, ℕ, List, length, IsTrue, IfOk, OnOk, OnErr, drop, option_copied};
-ghost use Rattle.contract_bytes.specs.Writing.{AppendsFront};
+ghost use Rattle.eutxo.specs.ContractBytes.Writing.{AppendsFront};
 ghost use Rattle.roles.specs.Sums.{sums_of};
 ghost use Rattle.roles.specs.Steps.{same_output, same_datum, is_instance, holds_just, continuation, goes_on_in, lock_for, owed_output, due_to, due_outputs, first_unpaid};
 
 use crate::amounts::{holds_sums, is_only, only};
-use bundle::Bundle;
-use collections::{Bytes, Items, Memory, Same, TryClone};
-use contract::{Party, Payee, Payment, State};
-use eutxo_types::{Cont, Datum, Instance, Lock, Output, Tx, datum_hash};
+use contract::{Bytes, Items, Memory, Party, Payee, Payment, Same, State, TryClone};
+use eutxo::{Bundle, Cont, Datum, Instance, Lock, Output, Tx, datum_hash};
 use std::alloc::Global;
 
 /// The output in which a contract goes on from a datum, with the datum's digest and the sums of its accounts. Answers

@@ -1,6 +1,6 @@
 //! Published contracts.
-use collections::{Bytes, Memory, Same, TryClone};
-use table::{Cont, Table};
+use compiler::table::{Cont, Table};
+use contract::{Bytes, Memory, Same, TryClone};
 
 /// A published contract: the script that judges the transactions of all contracts that start from it.
 /// The names of roles are those of tokens of one currency (Marlowe specification version 3,
@@ -53,8 +53,8 @@ impl Same for Published {
 }
 
 impl PartialEq for Published {
-    ghost use Rattle.collections.specs.Same.{same_by};
-    ghost use Rattle.collections.proofs.SameLaws.{same_by-partial};
+    ghost use Rattle.contract.specs.Collections.Same.{same_by};
+    ghost use Rattle.contract.proofs.FromCollections.SameLaws.{same_by-partial};
     ghost use Rattle.roles.specs.contracts.published.Published as it;
 
     ghost eq = { same_by it.the_row.coded };
@@ -67,7 +67,7 @@ impl PartialEq for Published {
 }
 
 impl Eq for Published {
-    ghost use Rattle.collections.proofs.SameLaws.{same_by-equiv};
+    ghost use Rattle.contract.proofs.FromCollections.SameLaws.{same_by-equiv};
     ghost use Rattle.roles.specs.contracts.published.Published as it;
 
     ghost laws = { same_by-equiv it.the_row.coded };

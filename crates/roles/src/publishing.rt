@@ -6,10 +6,9 @@ ghost use Rattle.roles.specs.Publications.{script_id, published_of, IsTableOf};
 
 use crate::laws::published_are_tables;
 use crate::published::Published;
-use collections::{Bytes, Memory};
 use compiler::{CompileFault, compile};
-use contract::Contract;
-use contract_bytes::{encode_contract, put_bytes};
+use contract::{Bytes, Contract, Memory};
+use eutxo::{encode_contract, put_bytes};
 use sha2::{Digest, Sha256};
 use std::alloc::Global;
 

@@ -6,11 +6,8 @@ use crate::amounts::holds_sums;
 use crate::authorise::holds_role;
 use crate::published::Published;
 use crate::step::{StepParts, step_of};
-use bundle::Bundle;
-use collections::{Bytes, Memory, Text};
-use contract::{Input, State};
-use eutxo::{Spent, StepAnswer, Validator};
-use eutxo_types::{Cont, Datum, Tx};
+use contract::{Bytes, Input, Memory, State, Text};
+use eutxo::{Bundle, Cont, Datum, Spent, StepAnswer, Tx, Validator};
 use std::alloc::Global;
 
 // Whether nothing was chosen and nothing is bound.
@@ -36,7 +33,7 @@ fn starts_from(alloc: Global, root: Cont, datum: &Datum, amount: &Bundle) -> Res
 /// role's token.
 impl Validator for Published {
     ghost use Rattle.std.proofs.Common.{ap};
-    ghost use Rattle.collections.proofs.SameLaws.{same_by_decides};
+    ghost use Rattle.contract.proofs.FromCollections.SameLaws.{same_by_decides};
     ghost use Rattle.roles.specs.contracts.published.Published as it;
     ghost use Rattle.roles.specs.Terms.{terms_of};
     ghost use Rattle.roles.specs.Steps.{step_of, starts_from, marlowe};

@@ -1,6 +1,6 @@
 //! Steps.
 ghost use Rattle.std.specs.Prelude.{◌≡◌, IfOk};
-ghost use Rattle.machine.specs.declared.datum.Datum.{Datum};
+ghost use Rattle.eutxo.specs.Machine.declared.datum.Datum.{Datum};
 ghost use Rattle.eutxo.specs.Asked.{Stepping};
 ghost use Rattle.roles.specs.Terms.{terms_of};
 ghost use Rattle.roles.specs.Steps.{payments_from, outcome_fault, outcome_answer, step_of};
@@ -8,11 +8,8 @@ ghost use Rattle.roles.specs.Steps.{payments_from, outcome_fault, outcome_answer
 use crate::authorise::unauthorised;
 use crate::owing::{due_count, goes_on_in, unpaid_index};
 use crate::published::Published;
-use collections::{Bytes, Memory, TryClone};
-use contract::{Input, Outcome, SemFault};
-use eutxo::{Spent, StepAnswer, StepFault};
-use eutxo_types::{Cont, Datum, Tx};
-use machine::compute;
+use contract::{Bytes, Input, Memory, Outcome, SemFault, TryClone};
+use eutxo::{Cont, Datum, Spent, StepAnswer, StepFault, Tx, compute};
 use std::alloc::{AllocError, Global};
 
 // What is asked about a step, but for what the transaction spends.

@@ -2,9 +2,8 @@
 use crate::replies::{headline, word_of_call};
 use crate::shown::put_output;
 use chain::Entry;
-use collections::Memory;
-use eutxo::{Resolved, Scripts};
-use eutxo_types::{Output, OutputRef, Spend, Tx};
+use contract::Memory;
+use ledger::{Output, OutputRef, Resolved, Scripts, Spend, Tx};
 use rows_text::{Identified, Known, RowFault, called, put_words, word_of_reference};
 use std::alloc::{AllocError, Global};
 

@@ -4,11 +4,8 @@ use crate::offers::Handed;
 use crate::parts::{WrittenPart, lent_parts};
 use crate::shown::put_output;
 use builder::{BuildFault, Part, build_claim, build_start, build_step, build_steps};
-use collections::{Items, Text};
-use contract::{Input, State};
-use eutxo_types::{Datum, Instance, Spend, Tx, TxFault};
-use ledger::Look;
-use roles::Published;
+use contract::{Input, Items, State, Text};
+use ledger::{Datum, Instance, Look, Published, Spend, Tx, TxFault};
 use rows_text::{
     Known, RowFault, both, first, inputs_of, nothing, parts, put_words, refusal_line, replace,
     state_of, text, word_of, word_of_reference,

@@ -1,6 +1,6 @@
 //! Copies of calls and replies, beside what they are of.
 use chain::{Call, Entry, Reply};
-use collections::Memory;
+use contract::Memory;
 use rows_text::{done, put_beside, put_copy, put_same};
 use std::alloc::{AllocError, Global};
 

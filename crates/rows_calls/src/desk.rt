@@ -1,11 +1,8 @@
 //! What is written so far.
 use crate::offers::{Handed, hand_in};
 use crate::parts::{WrittenPart, put_part};
-use collections::Items;
-use eutxo::Checked;
-use eutxo_types::{Cont, Datum, Output, Tx};
-use ledger::{Look, ThreadOutput};
-use roles::Published;
+use contract::Items;
+use ledger::{Checked, Cont, Datum, Look, Output, Published, ThreadOutput, Tx};
 use rows_text::{
     Known, RowFault, datum_of, named_text_of, nothing, number, output_of, parts, put, put_in,
     replace, write,

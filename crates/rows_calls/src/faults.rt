@@ -1,8 +1,7 @@
 //! The values of faults, one after another: their texts and their copies.
 use builder::BuildFault;
 use chain::GenesisFault;
-use collections::{Bytes, Text};
-use contract::{Party, SemFault, Token};
+use contract::{Bytes, Party, SemFault, Text, Token};
 use rows_text::{RowFault, Values, texts_of, value_copies, value_texts};
 use std::alloc::Global;
 

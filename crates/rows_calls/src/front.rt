@@ -1,9 +1,8 @@
 //! The front of the pool. What owns checks and resolutions is generic in their scripts, so that no proof walks through the drop of
 //! these.
 use crate::asked::{put_found, put_scripts};
-use collections::Memory;
-use eutxo::{Checked, Resolved, Validator};
-use eutxo_types::{Tx, tx_id};
+use contract::Memory;
+use ledger::{Checked, Resolved, Tx, Validator, tx_id};
 use rows_text::{Known, RowFault, called, keep_check, put_words, word_of_id};
 use std::alloc::{AllocError, Global};
 

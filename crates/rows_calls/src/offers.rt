@@ -1,7 +1,6 @@
 //! What is handed in beside a request.
-use collections::{Items, TryClone};
-use eutxo_types::{Output, OutputRef};
-use ledger::{Look, Unspent};
+use contract::{Items, TryClone};
+use ledger::{Look, Output, OutputRef, Unspent};
 use rows_text::{Known, RowFault, first, number, output_of, parts, put, reference_of};
 use std::alloc::Global;
 

@@ -1,7 +1,6 @@
 //! Parts of steps in one transaction.
 use builder::Part;
-use collections::{Items, Memory, TryClone};
-use contract::Input;
+use contract::{Input, Items, Memory, TryClone};
 use ledger::Look;
 use rows_text::{Known, RowFault, both, inputs_of, put_in};
 use std::alloc::Global;

@@ -2,8 +2,7 @@
 use crate::desk::Desk;
 use crate::taking::Calls;
 use chain::Call;
-use collections::{Bytes, Items, TryClone};
-use contract::Contract;
+use contract::{Bytes, Contract, Items, TryClone};
 use contract_json::read_contract;
 use ledger::{Ask, PayoutLock};
 use rows_text::{

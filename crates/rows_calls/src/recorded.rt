@@ -1,8 +1,7 @@
 //! The steps of a thread as they are printed.
 use crate::shown::state_word;
 use chain::StepRecord;
-use collections::{Items, Memory, TryClone};
-use contract::{Input, Payment, Warning};
+use contract::{Input, Items, Memory, Payment, TryClone, Warning};
 use contract_json::fitting_to_json;
 use rows_text::{RowFault, called, put_beside, put_copies, put_words};
 use std::alloc::{AllocError, Global};

@@ -1,7 +1,7 @@
 //! Replies as they are printed.
 use crate::shown::put_look;
 use chain::{Call, Reply, Ticketed};
-use collections::{Memory, TryClone};
+use contract::{Memory, TryClone};
 use ledger::Look;
 use rows_text::{
     Known, RowFault, called, put_words, refusal_line, replace, verdict_line, word_of_id,

@@ -1,9 +1,7 @@
 //! Outputs and looks as they are printed.
-use collections::Memory;
-use contract::State;
+use contract::{Memory, State};
 use contract_json::fitting_to_json;
-use eutxo_types::{Datum, Lock, Output, OutputRef};
-use ledger::{Look, ThreadOutput, Unspent};
+use ledger::{Datum, Lock, Look, Output, OutputRef, ThreadOutput, Unspent};
 use rows_text::{Known, put_amounts, put_words, word_of_reference};
 use std::alloc::{AllocError, Global};
 

@@ -1,6 +1,5 @@
 //! Threads that wait for each other.
-use parallel_check::Gate;
-use parties::Watch;
+use parties::{Gate, Watch};
 use std::sync::atomic::{AtomicU64, Ordering};
 use std::thread;
 

@@ -1,8 +1,6 @@
 //! Parties.
-use collections::{Bytes, Items, Memory, Text};
-use contract::{Input, Interval};
-use eutxo_types::OutputRef;
-use parties::{Intent, Party, Plan};
+use contract::{Bytes, Input, Interval, Items, Memory, Text};
+use parties::{Intent, OutputRef, Party, Plan};
 use rows_text::{both, done, one};
 use std::alloc::Global;
 

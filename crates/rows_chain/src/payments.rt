@@ -1,17 +1,13 @@
 //! Payments with what they find. Each is put together by functions that are generic in the parts, so that no proof
 //! walks through the drop of a transaction.
 ghost use Rattle.std.specs.Prelude.{IsTrue};
-ghost use Rattle.bundle.specs.Bundles.{AllPositive};
+ghost use Rattle.parties.specs.Ledger.Bundle.Bundles.{AllPositive};
 
 use crate::row::Row;
-use bundle::Bundle;
-use collections::{Bytes, Entries, Items, Memory, Text};
-use contract::Interval;
-use eutxo::{Resolved, Scripts};
-use eutxo_types::{Lock, Output, OutputRef, Redeemer, Spend, Tx};
-use ledger::Ask;
-use names::Token;
-use roles::Published;
+use contract::{Bytes, Entries, Interval, Items, Memory, Text, Token};
+use parties::{
+    Ask, Bundle, Lock, Output, OutputRef, Published, Redeemer, Resolved, Scripts, Spend, Tx,
+};
 use rows_text::{both, done, list, one, put_keys};
 use std::alloc::Global;
 

@@ -5,12 +5,11 @@ use crate::calls::{Work, call_all};
 use crate::meeting::Meeting;
 use crate::payments::{found, key_output, payment};
 use crate::row::Row;
-use collections::{Memory, Same};
-use eutxo::{Checked, check_owned};
-use hub::{
-    Chain, Closed, Entry, GenesisFault, Hub, Opening, Receipt, Reply, Seat, SeatAtHub, Session,
+use contract::{Memory, Same};
+use parties::{
+    Chain, Checked, Closed, Entry, GenesisFault, Hub, Opening, Published, Receipt, Reply, Seat,
+    SeatAtHub, Session, check_owned,
 };
-use roles::Published;
 use rows_text::{RowFault, both, list, times};
 use std::alloc::Global;
 use std::marker::Brand;

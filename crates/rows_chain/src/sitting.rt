@@ -6,12 +6,10 @@ use crate::meeting::Meeting;
 use crate::party::stepper;
 use crate::row::workers_of;
 use crate::seats::call_at_once;
-use collections::{Memory, TryClone};
-use eutxo::{Checked, check_owned};
-use eutxo_types::OutputRef;
-use hub::{Call, Hub, Opening, Receipt, Seat, Session};
-use parallel_check::NoGate;
-use roles::Published;
+use contract::{Memory, TryClone};
+use parties::{
+    Call, Checked, Hub, NoGate, Opening, OutputRef, Published, Receipt, Seat, Session, check_owned,
+};
 use rows_calls::{Calls, Desk, finish, history_lines, name_written, put_reply, taken};
 use rows_text::{
     Known, Report, RowFault, called, first, in_bytes, number, parts, put_answer, reference_of,

@@ -2,10 +2,8 @@
 use crate::payments::payments;
 use crate::row::{Row, row_of};
 use crate::seats::{Played, admit, call, pay};
-use collections::Memory;
-use eutxo::{Checked, Validator};
-use eutxo_types::Verdict;
-use parallel_check::{Gate, NoGate, check_all};
+use contract::Memory;
+use parties::{Checked, Gate, NoGate, Validator, Verdict, check_all};
 use rows_text::{RowFault, called};
 use std::alloc::Global;
 use std::io;

@@ -1,7 +1,7 @@
 //! The values of the fault of `play`, one after another.
 use collections::Text;
-use contract_json::JsonFault;
 use marlowe_commands::{Cause, PlayFault, SetupRefusal};
+use marlowe_run::JsonFault;
 use rows_text::{RowFault, texts_of};
 use std::alloc::Global;
 

@@ -2,10 +2,7 @@
 use crate::case::Case;
 use crate::pieces::put_pieces;
 use json::Scratch;
-use json_tree::from_slice;
-use marlowe_io::{ReaderSource, WriterSink};
-use marlowe_run::{Readable, beside_dropped};
-use serve::{Ended, serve};
+use serve::{Ended, Readable, ReaderSource, WriterSink, beside_dropped, from_slice, serve};
 use std::alloc::Global;
 use std::{io, str};
 

@@ -1,5 +1,5 @@
 //! Lines that are made of pieces, since no line of JSON can have them, or since they are long.
-use json_tree::{Json, JsonValue};
+use serve::{Json, JsonValue};
 use std::io;
 
 /// Puts the line that is made of a list of pieces: texts, bytes by their numbers, and lists of a count and a text that stands so many times.

@@ -1,13 +1,12 @@
 //! Amounts of tokens, as they are read and printed.
 ghost use Rattle.std.specs.Prelude.{IsTrue};
-ghost use Rattle.bundle.specs.Bundles.{AllPositive};
+ghost use Rattle.roles.specs.Bundle.Bundles.{AllPositive};
 
 use crate::carried::{both, done, put_in, put_words};
 use crate::fault::RowFault;
 use crate::words::{bytes, number, sides, text};
-use bundle::Bundle;
-use collections::Entries;
-use names::Token;
+use contract::{Entries, Token};
+use roles::Bundle;
 use std::alloc::{AllocError, Global};
 
 type Entry = (Token, i128);

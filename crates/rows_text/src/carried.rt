@@ -1,7 +1,7 @@
 //! What is only handed on. Each function here is generic in what it owns, so that no proof walks through its drop, and who calls it has
 //! few ways out.
 use crate::fault::RowFault;
-use collections::{Items, Memory, TryClone};
+use contract::{Items, Memory, TryClone};
 use std::alloc::Global;
 use std::mem;
 

@@ -3,9 +3,8 @@ use crate::carried::{put_in, put_words};
 use crate::copied::put_same;
 use crate::fault::{RowFault, called};
 use crate::verdicts::verdict_line;
-use collections::{Same, TryClone};
-use eutxo::{Checked, Resolved, Validator, check, recheck};
-use eutxo_types::{Tx, Verdict};
+use contract::{Same, TryClone};
+use roles::{Checked, Resolved, Tx, Validator, Verdict, check, recheck};
 use std::alloc::{AllocError, Global};
 
 /// Checks a transaction with what is found, and keeps the check at hand: the line for the verdict.

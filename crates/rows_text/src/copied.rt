@@ -1,6 +1,6 @@
 //! Copies beside what they are of. What owns a copy is generic in it, so that no proof walks through its drop.
 use crate::carried::put_words;
-use collections::{Items, Memory, Same, TryClone};
+use contract::{Items, Memory, Same, TryClone};
 use std::alloc::Global;
 use std::fmt::Display;
 

@@ -6,8 +6,8 @@ use crate::fault::RowFault;
 use crate::known::Known;
 use crate::outputs::state_of;
 use crate::words::number;
-use collections::Items;
-use eutxo_types::{Cont, Datum, Output, Tx};
+use contract::Items;
+use roles::{Cont, Datum, Output, Tx};
 use std::alloc::Global;
 
 /// A datum, from the number of a continuation and a state.

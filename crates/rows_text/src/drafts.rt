@@ -6,9 +6,8 @@ use crate::known::Known;
 use crate::outputs::{Written, written_of};
 use crate::spends::{put_keys, spend_of};
 use crate::words::{number, parts, text};
-use collections::{Items, TryClone};
-use contract::Interval;
-use eutxo_types::{Spend, Tx};
+use contract::{Interval, Items, TryClone};
+use roles::{Spend, Tx};
 use std::alloc::Global;
 
 /// A transaction of nothing, from 0 to 0. Takes no memory.

@@ -1,8 +1,8 @@
 //! Lines that can't be answered.
-use collections::Memory;
-use compiler::CompileFault;
+use contract::Memory;
 use contract_json::JsonFault;
 use hex::FromHexError;
+use roles::CompileFault;
 use std::alloc::{AllocError, AllocFailed};
 use std::io;
 

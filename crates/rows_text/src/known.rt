@@ -4,7 +4,7 @@ use crate::identified::{Identified, by_id, by_name};
 use crate::publications::Named;
 use crate::references::{Sent, datum_among};
 use crate::words::parts;
-use eutxo_types::{Datum, OutputRef};
+use roles::{Datum, OutputRef};
 use std::alloc::{AllocError, Global};
 
 /// A text, under the name that the rows give it.

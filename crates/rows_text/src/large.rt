@@ -1,7 +1,6 @@
 //! Contracts that no text of the greatest length has.
 use crate::carried::{both, times};
-use collections::{Boxed, Items, Memory};
-use contract::{Action, Case, Contract, Observation};
+use contract::{Action, Boxed, Case, Contract, Items, Memory, Observation};
 use std::alloc::Global;
 
 /// An assertion of so many `not`s round `true`, then close.

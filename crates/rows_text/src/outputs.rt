@@ -8,7 +8,7 @@ use crate::known::Known;
 use crate::words::{bytes, first, id, number, parts, text};
 use contract::State;
 use contract_json::read_state;
-use eutxo_types::{Cont, Datum, Lock, Output, datum_hash};
+use roles::{Cont, Datum, Lock, Output, datum_hash};
 use std::alloc::Global;
 
 /// An output as it is written, with the datum that a contract's is written with.

@@ -4,13 +4,9 @@ use crate::fault::RowFault;
 use crate::identified::Identified;
 use crate::known::Known;
 use crate::words::{bytes, parts};
-use collections::{Bytes, Memory, TryClone};
-use compiler::CompileFault;
-use contract::Contract;
+use contract::{Bytes, Contract, Memory, TryClone};
 use contract_json::{JsonFault, read_contract};
-use eutxo::Shared;
-use eutxo_types::Cont;
-use roles::{Published, publish};
+use roles::{CompileFault, Cont, Published, Shared, publish};
 use std::alloc::Global;
 use std::sync::Arc;
 

@@ -2,8 +2,8 @@
 use crate::fault::RowFault;
 use crate::identified::{Identified, by_id, by_name};
 use crate::words::{id, number, sides};
-use collections::TryClone;
-use eutxo_types::{Datum, OutputRef, Tx, tx_id};
+use contract::TryClone;
+use roles::{Datum, OutputRef, Tx, tx_id};
 use std::alloc::{AllocError, Global};
 
 /// A transaction with its id, under the name that the rows give it.

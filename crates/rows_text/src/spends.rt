@@ -5,10 +5,9 @@ use crate::fault::RowFault;
 use crate::known::Known;
 use crate::references::reference_of;
 use crate::words::{first, number, parts, sides, text};
-use collections::{Items, Memory};
-use contract::{Input, Party};
+use contract::{Input, Items, Memory, Party};
 use contract_json::read_input;
-use eutxo_types::{OutputRef, Redeemer, Spend};
+use roles::{OutputRef, Redeemer, Spend};
 use std::alloc::Global;
 
 /// An input, from `REFERENCE REDEEMER`.

@@ -1,7 +1,7 @@
 //! Verdicts as they are printed.
 use crate::amounts::word_of;
 use contract::{Party, Token};
-use eutxo_types::{TxFault, Verdict};
+use roles::{TxFault, Verdict};
 use std::alloc::{AllocError, Global};
 
 /// The line for a verdict: `accepted`, or the refusal's.

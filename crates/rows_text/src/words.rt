@@ -1,6 +1,6 @@
 //! Words of a line.
 use crate::fault::RowFault;
-use collections::{Bytes, Text};
+use contract::{Bytes, Text};
 use hex::FromHex;
 use std::alloc::Global;
 use std::str::FromStr;

@@ -7,9 +7,8 @@ use crate::faults::{apart_row, copies_row};
 use crate::finds::Finds;
 use crate::lines::{in_row, in_two_lines};
 use crate::sums::{added, are_sums, subtracted, totals};
-use collections::{Items, Same};
-use eutxo::{Checked, Resolved, Validator};
-use eutxo_types::{Tx, encode_tx, tx_id};
+use contract::{Items, Same};
+use roles::{Checked, Resolved, Tx, Validator, encode_tx, tx_id};
 use rows_text::{Known, RowFault, check_copies, keep_check, nothing, recheck_line, replace};
 use std::alloc::{AllocError, Global};
 

@@ -2,9 +2,8 @@
 use crate::checks::resolved_of;
 use crate::resolved::copies_of;
 use crate::stubborn::Stubborn;
-use collections::{Items, Memory};
-use eutxo::{Checked, Resolved, Scripts, Validator, check, recheck};
-use eutxo_types::{Output, Tx};
+use contract::{Items, Memory};
+use roles::{Checked, Output, Resolved, Scripts, Tx, Validator, check, recheck};
 use rows_text::{Identified, Named, RowFault, both, done};
 use std::alloc::Global;
 use std::sync::Arc;

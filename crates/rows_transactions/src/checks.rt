@@ -2,12 +2,11 @@
 use crate::lines::in_row;
 use crate::resolved::copies_of;
 use crate::stubborn::Stubborn;
-use collections::{Items, Memory};
-use eutxo::{
-    Judged, Resolved, Scripts, Shared, Validator, check, judge_local, judge_spent, verdict_of,
+use contract::{Items, Memory};
+use roles::{
+    Judged, Output, Published, Resolved, Scripts, Shared, Tx, Validator, check, judge_local,
+    judge_spent, verdict_of,
 };
-use eutxo_types::{Output, Tx};
-use roles::Published;
 use rows_text::{Identified, Named, RowFault, both, called, done, verdict_line};
 use std::alloc::{AllocError, Global};
 use std::sync::Arc;

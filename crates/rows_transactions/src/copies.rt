@@ -1,8 +1,7 @@
 //! Copies of what is written, beside what they are of.
 use crate::lines::{in_row, put_all, put_named};
-use collections::{Items, Memory, Same, Text, TryClone};
-use eutxo::Resolved;
-use eutxo_types::{Datum, Lock, Spend, Tx};
+use contract::{Items, Memory, Same, Text, TryClone};
+use roles::{Datum, Lock, Resolved, Spend, Tx};
 use rows_text::{
     Named, RowFault, amounts_of, data_for_outputs, done, put_copy, put_same, put_same_copy,
     put_words,

@@ -1,7 +1,6 @@
 //! Data as bytes.
 use crate::lines::{in_row, in_two_lines};
-use contract_bytes::Spell;
-use eutxo_types::{Cont, Datum, datum_hash};
+use roles::{Cont, Datum, Spell, datum_hash};
 use rows_text::{Known, RowFault, datum_of, number, parts};
 use std::alloc::{AllocError, Global};
 

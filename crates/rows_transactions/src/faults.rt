@@ -1,9 +1,6 @@
 //! The values of faults, one after another: their texts and their copies.
-use bundle::BundleFault;
-use collections::{Bytes, Memory, Text};
-use contract::{Party, SemFault, Token};
-use eutxo::{StepAnswer, StepFault};
-use eutxo_types::TxFault;
+use contract::{Bytes, Memory, Party, SemFault, Text, Token};
+use roles::{BundleFault, StepAnswer, StepFault, TxFault};
 use rows_text::{RowFault, Values, value_copies, value_texts, values_apart};
 use std::alloc::Global;
 

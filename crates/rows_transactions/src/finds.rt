@@ -1,6 +1,6 @@
 //! What is said of what a transaction finds.
-use collections::Items;
-use eutxo_types::{Lock, Output, Tx};
+use contract::Items;
+use roles::{Lock, Output, Tx};
 use rows_text::{
     Known, Named, RowFault, Written, bring_for_input, bring_for_outputs, locked, named_of, number,
     parts, put, put_in, put_keys, replace, text, written_of,

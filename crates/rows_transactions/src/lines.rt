@@ -1,5 +1,5 @@
 //! Lines as they are answered.
-use collections::{Memory, TryClone};
+use contract::{Memory, TryClone};
 use rows_text::{RowFault, done, put_beside, put_copies, put_copy, put_words};
 use std::alloc::{AllocError, Global};
 

@@ -1,10 +1,8 @@
 //! What a transaction that is written down more than once finds.
 use crate::checks::found_under;
 use crate::finds::Finds;
-use collections::{Items, Memory};
-use eutxo::{Resolved, Scripts, copy_option};
-use eutxo_types::Output;
-use roles::Published;
+use contract::{Items, Memory};
+use roles::{Output, Published, Resolved, Scripts, copy_option};
 use rows_text::{Identified, Known, Named, RowFault, done};
 use std::alloc::Global;
 

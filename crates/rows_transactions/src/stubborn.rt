@@ -1,9 +1,6 @@
 //! A validator beside Marlowe's.
-use bundle::Bundle;
-use collections::{Bytes, Memory, Text};
-use contract::Input;
-use eutxo::{Shared, Spent, StepAnswer, StepFault, Validator};
-use eutxo_types::{Datum, Tx};
+use contract::{Bytes, Input, Memory, Text};
+use roles::{Bundle, Datum, Shared, Spent, StepAnswer, StepFault, Tx, Validator};
 use std::alloc::Global;
 use std::sync::Arc;
 use std::sync::atomic::{AtomicU64, Ordering};
@@ -59,8 +56,8 @@ impl Eq for Stubborn {
 
 impl Validator for Stubborn {
     ghost use Rattle.std.specs.Prelude.{true, false, refl, Some};
-    ghost use Rattle.eutxo.specs.declared.step_fault.StepFault.TheVariants.{WrongContinuation};
-    ghost use Rattle.eutxo.specs.declared.validator.StepAnswer.TheVariants.{Takes};
+    ghost use Rattle.roles.specs.Eutxo.declared.step_fault.StepFault.TheVariants.{WrongContinuation};
+    ghost use Rattle.roles.specs.Eutxo.declared.validator.StepAnswer.TheVariants.{Takes};
 
     ghost judges = { record { step = λ s step. Takes (Some WrongContinuation) true 0; starts = λ s d held. true; claims = λ spent currency role. false } };
 

@@ -1,9 +1,7 @@
 //! Sums and differences of bundles.
 use crate::lines::in_row;
-use bundle::{Bundle, BundleFault, total_of};
-use collections::{Memory, TryClone};
-use contract::Token;
-use roles::holds_sums;
+use contract::{Memory, Token, TryClone};
+use roles::{Bundle, BundleFault, holds_sums, total_of};
 use rows_text::{
     Known, RowFault, both, bundle_of, done, first, parts, put_amounts, same_or_other, sides,
     state_of, times, token_of, word_of,

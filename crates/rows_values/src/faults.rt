@@ -1,10 +1,8 @@
 //! The values of faults, one after another.
-use compiler::CompileFault;
 use contract::{SemFault, StateFault};
-use contract_json::{JsonFault, WriteFault};
 use marlowe_cli::WordsFault;
 use marlowe_io::LoadFault;
-use marlowe_refusals::{Fault, RunFault, TableFault, refusal};
+use marlowe_run::{CompileFault, Fault, JsonFault, RunFault, TableFault, WriteFault, refusal};
 use rows_text::{RowFault, apart_of, texts_of};
 use std::alloc::{AllocError, Global};
 

@@ -2,7 +2,7 @@
 use contract::{
     Action, Bound, Case, ChoiceId, Contract, Input, Observation, Party, Payee, State, Token, Value,
 };
-use contract_json::{
+use marlowe_run::{
     JsonFault, PutJson, Transaction, WriteFault, action_from_json, bound_from_json, case_from_json,
     choice_id_from_json, contract_from_json, input_from_json, observation_from_json,
     party_from_json, payee_from_json, state_from_json, to_json, token_from_json,

@@ -1,8 +1,7 @@
 //! Plans as they are printed once they are read.
 use crate::scenarios::put_json;
-use collections::{Items, Memory};
-use contract::{Input, Text};
-use contract_json::to_json;
+use contract::{Input, Items, Memory, Text};
+use marlowe_run::to_json;
 use plans::{Intent, Plan};
 use rows_text::RowFault;
 use std::alloc::Global;

@@ -2,8 +2,8 @@
 use crate::sorts::text_or_fault;
 use crate::spellings::in_hex;
 use contract::{Boxed, Contract, Text, TryClone, Value};
-use contract_bytes::encode_contract;
-use contract_json::write_contract;
+use machine::contract_bytes::encode_contract;
+use marlowe_run::write_contract;
 use rows_text::{RowFault, lent, number, same_or_other, wide};
 use std::alloc::{AllocError, Global};
 

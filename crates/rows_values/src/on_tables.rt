@@ -1,14 +1,14 @@
 //! Runs on the tree of a contract and on its table.
-use compiler::compile;
 use contract::{Contract, Outcome, SemFault, TryClone};
-use contract_json::{Transaction, read_contract, read_state, read_transaction, write_outcome};
+use machine::table::{Cont, Table};
 use machine::{Datum, compute};
-use marlowe_refusals::{Fault, RunFault, refusal};
-use marlowe_run::run;
+use marlowe_run::{
+    Fault, RunFault, Transaction, compile, read_contract, read_state, read_transaction, refusal,
+    run, write_outcome,
+};
 use rows_given::Given;
 use rows_text::{RowFault, both, lent};
 use std::alloc::{AllocError, Global};
-use table::{Cont, Table};
 
 /// The outcome of a transaction, or the line of its refusal; and where the table of the contract doesn't stand for it, or a run on that
 /// tells another thing, that as well.

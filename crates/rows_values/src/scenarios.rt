@@ -1,9 +1,7 @@
 //! Scenarios as they are printed once they are read.
 use crate::intents::put_plan;
-use collections::Memory;
-use contract_json::{WriteFault, fitting_to_json, to_json};
-use json_read_names::JsonFault;
-use marlowe_refusals::json_fault_name;
+use contract::Memory;
+use marlowe_run::{JsonFault, WriteFault, fitting_to_json, json_fault_name, to_json};
 use plans::{Funds, NamedContract, NamedThread, Scenario};
 use rows_text::{RowFault, put_amounts};
 use serde_json::Value as Json;

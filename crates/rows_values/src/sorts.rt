@@ -4,8 +4,7 @@ use contract::{
     Action, Bound, Case, ChoiceId, Contract, Input, Observation, Party, Payee, State, Token,
     TryClone, Value,
 };
-use contract_json::{JsonFault, Transaction, WriteFault};
-use marlowe_refusals::{json_fault_name, write_fault_name};
+use marlowe_run::{JsonFault, Transaction, WriteFault, json_fault_name, write_fault_name};
 use rows_text::{RowFault, same_or_other};
 use std::alloc::{AllocError, Global};
 

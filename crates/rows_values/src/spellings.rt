@@ -2,7 +2,7 @@
 use crate::forms::{Form, form_of};
 use crate::sorts::{named, no_such_sort};
 use contract::{Bound, ChoiceId, Contract, Input, Items, Party, Payee, State, Text, Token};
-use contract_bytes::{
+use machine::contract_bytes::{
     encode_contract, encode_input, encode_party, encode_state, encode_token, put_bound, put_byte,
     put_bytes, put_choice_id, put_input, put_length, put_list, put_number, put_party, put_payee,
     put_state, put_text, put_time, put_token,

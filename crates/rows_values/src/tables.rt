@@ -1,15 +1,12 @@
 //! Tables of contracts.
-use collections::TryClone;
-use compiler::{CompileFault, compile};
-use contract::{Case, Contract};
-use contract_json::read_contract;
-use marlowe_refusals::compile_fault_name;
+use contract::{Case, Contract, TryClone};
+use machine::table::{Cont, Entry, Table};
+use marlowe_run::{CompileFault, compile, compile_fault_name, read_contract};
 use rows_text::{
     RowFault, lent, nested, notify_and, number, parts, put_beside, put_copies, put_copy, times,
     waiting, wide,
 };
 use std::alloc::{AllocError, Global};
-use table::{Cont, Entry, Table};
 
 /// The answer to a row about a table.
 pub fn table_row(alloc: Global, word: &str, text: &str) -> Result<Vec<u8>, RowFault> {

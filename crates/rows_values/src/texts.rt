@@ -3,11 +3,11 @@ use crate::forms::text_of;
 use crate::scenarios::reading;
 use crate::sorts::{named, no_such_sort, text_or_fault};
 use contract::{Contract, Input, State};
-use contract_json::{
+use json_read_scenarios::read_scenario;
+use marlowe_run::{
     JsonFault, Transaction, WriteFault, read_contract, read_input, read_state, read_transaction,
     write_contract,
 };
-use json_read_scenarios::read_scenario;
 use rows_text::{RowFault, same_or_other};
 use std::alloc::{AllocError, Global};
 

@@ -1,6 +1,5 @@
 //! Constants that stand in values and observations.
-use collections::Memory;
-use contract::{Observation, Value};
+use contract::{Memory, Observation, Value};
 use std::alloc::Global;
 
 // The most constants that are gathered.

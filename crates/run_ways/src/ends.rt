@@ -2,8 +2,7 @@
 use crate::weights::of_bounds;
 use crate::work::spend;
 use analysis_spec::PathStep;
-use collections::Memory;
-use contract::{Action, Bound, Case, ChoiceId, Contract, Observation, Value};
+use contract::{Action, Bound, Case, ChoiceId, Contract, Memory, Observation, Value};
 use std::alloc::Global;
 
 // How many of the choices before a comparison are looked at.

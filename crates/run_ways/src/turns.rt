@@ -1,7 +1,7 @@
 //! Which candidates a run takes, one after another.
 use crate::candidates::Candidates;
 use crate::work::spend;
-use collections::Memory;
+use contract::Memory;
 use std::alloc::Global;
 
 /// A point where a run had a choice.

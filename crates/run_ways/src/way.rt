@@ -5,8 +5,7 @@ use crate::weights::{of_bounds, weigh_settling, weigh_state, weigh_step};
 use crate::work::spend;
 use analysis_spec::PathStep;
 use analysis_walk::part_behind;
-use collections::Memory;
-use contract::{Action, Case, Contract, State};
+use contract::{Action, Case, Contract, Memory, State};
 use std::alloc::Global;
 
 // What the sums and differences of constants take, for the square of their number.

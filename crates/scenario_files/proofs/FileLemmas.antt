@@ -4,7 +4,7 @@ use Rattle.std.specs.Prelude.{◌≢◌, None, Some, Bool, true, false, Result, 
 use Rattle.std.specs.Str.{is_utf8}
 use Rattle.std.proofs.lemmas.List.{drop_more, drop_all}
 use Rattle.std.proofs.lemmas.Str.{is_utf8-from_IsUtf8, IsUtf8-from_is_utf8}
-use Rattle.collections.specs.Answers.{Aside}
+use Rattle.contract.specs.Collections.Answers.{Aside}
 use Rattle.json_read_names.specs.declared.fault.JsonFault.{JsonFault}
 use Rattle.json_read_names.specs.declared.fault.JsonFault.TheVariants as json
 use Rattle.json_read_names.specs.Parts.{Reading}

@@ -3,7 +3,7 @@ ghost use Rattle.std.specs.Prelude.{◌≡◌};
 ghost use Rattle.scenario_files.specs.ScenarioFiles.{joining};
 ghost use Rattle.scenario_files.specs.declared.fault.FilesFault.TheVariants as faults;
 
-use collections::Text;
+use contract::Text;
 use file_parts::JoinFault;
 use json_read_names::JsonFault;
 use std::alloc::{AllocError, AllocFailed};

@@ -8,7 +8,7 @@ ghost use Rattle.scenario_files.specs.ScenarioFiles.{IsFaultOf, IsNoContract, Is
 ghost use Rattle.scenario_files.specs.declared.fault.FilesFault.TheVariants as faults;
 
 use crate::fault::FilesFault;
-use collections::{Memory, TryClone};
+use contract::{Memory, TryClone};
 use contract_json::read_contract_within;
 use file_parts::{FileName, FileText};
 use json_read_names::JsonFault;

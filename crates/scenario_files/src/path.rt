@@ -2,7 +2,7 @@
 ghost use Rattle.std.specs.Prelude.{◌≡◌, ◌++◌, ◌==◌, IfOk, slice_index, string_bytes};
 ghost use Rattle.scenario_files.specs.Paths.{IsBeside, IsFolder, slash};
 
-use collections::Memory;
+use contract::Memory;
 use std::alloc::Global;
 
 /// Where a path leads that a scenario at another path names: from the folder of the scenario, unless it begins with `/`. Beside `-`, which is standard input,

@@ -5,7 +5,7 @@ ghost use Rattle.scenario_files.specs.ScenarioFiles.{files_members, files_refusa
 ghost use Rattle.scenario_files.specs.declared.fault.FilesFault.TheVariants as faults;
 
 use crate::fault::FilesFault;
-use collections::{Memory, Text};
+use contract::{Memory, Text};
 use json_read_names::JsonFault;
 use json_write_contracts::term_text;
 use marlowe_refusals::json_fault_name;

@@ -5,9 +5,9 @@ use Rattle.std.specs.Option.{unwrap_or}
 use Rattle.std.specs.FinMap.{FinMap, empty}
 use Rattle.serde_json.specs.Data.{Data}
 use Rattle.serde_json.specs.Find.{as_array}
-use Rattle.collections.specs.Answers.{◌>>=◌}
-use Rattle.names.specs.Orders.{account_cmp, token_cmp}
-use Rattle.states.specs.States.{StateMaps}
+use Rattle.contract.specs.Collections.Answers.{◌>>=◌}
+use Rattle.contract.specs.Names.Orders.{account_cmp, token_cmp}
+use Rattle.contract.specs.States.States.{StateMaps}
 use Rattle.contract.specs.declared.tree.Contract.{Contract}
 use Rattle.contract.specs.declared.input.Input.{Input}
 use Rattle.contract.specs.declared.interval.Interval.{Interval}

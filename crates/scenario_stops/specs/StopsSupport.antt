@@ -8,8 +8,8 @@ use Rattle.std.specs.BTreeMap.{get_by_text}
 use Rattle.serde_json.specs.Data.{Data, Items, no_items, item}
 use Rattle.serde_json.specs.Find.{get, as_array}
 use Rattle.serde_json.specs.View.{items_of}
-use Rattle.names.specs.Equal.{same_text}
-use Rattle.collections.specs.Answers.{◌>>=◌}
+use Rattle.contract.specs.Names.Equal.{same_text}
+use Rattle.contract.specs.Collections.Answers.{◌>>=◌}
 use Rattle.json_read_names.specs.Forms.{has_two}
 use Rattle.json_read_names.specs.Parts.{Reading, text}
 use Rattle.json_read_names.specs.declared.fault.JsonFault.{JsonFault}

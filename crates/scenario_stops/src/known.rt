@@ -9,7 +9,7 @@ ghost use Rattle.scenario_stops.specs.Parts.{start};
 ghost use Rattle.scenario_stops.specs.Stops.{name_in};
 ghost use Rattle.scenario_stops.specs.StopsSupport.{Added, Leaves, NamesAre, Puts, has_name};
 
-use collections::Memory;
+use contract::Memory;
 use json_forms::{NamedSort, ScenarioSort};
 use std::alloc::Global;
 use std::collections::BTreeMap;

@@ -4,7 +4,7 @@ ghost use Rattle.serde_json.specs.Find.{as_array, get};
 ghost use Rattle.serde_json.specs.View.{items_of};
 ghost use Rattle.scenario_stops.specs.Stops.{list_key, name_in, names_in, names_of};
 
-use collections::Memory;
+use contract::Memory;
 use json_forms::NamedSort;
 use json_tree::JsonValue;
 use std::alloc::Global;

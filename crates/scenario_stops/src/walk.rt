@@ -12,7 +12,7 @@ ghost use Rattle.scenario_stops.specs.StopsSupport.{IsStopFor, IsStopIn, along, 
 use crate::form::{Shape, shape_in};
 use crate::known::Names;
 use crate::listed::name_in;
-use collections::Memory;
+use contract::Memory;
 use json_forms::{Form, Key, ScenarioSort, Sort, fields_of, key_word, more_of};
 use json_read_names::JsonFault;
 use json_stops::{Step, Stop};

@@ -4,15 +4,15 @@ use Rattle.std.specs.Prelude.{map, slice_get}
 use Rattle.std.specs.Option.{is_none}
 use Rattle.std.proofs.lemmas.Int.{ints}
 use Rattle.std.specs.FinMap.{entries, empty, entries-from_sorted}
-use Rattle.collections.specs.Total.{total}
-use Rattle.collections.proofs.Maps.{no_entries}
-use Rattle.names.specs.Orders.{account_cmp}
-use Rattle.names.specs.declared.token.Token.{Token}
-use Rattle.names.specs.declared.account.Account.{Account}
+use Rattle.contract.specs.Collections.Total.{total}
+use Rattle.contract.proofs.FromCollections.Maps.{no_entries}
+use Rattle.contract.specs.Names.Orders.{account_cmp}
+use Rattle.contract.specs.Names.declared.token.Token.{Token}
+use Rattle.contract.specs.Names.declared.account.Account.{Account}
 use Rattle.contract.specs.declared.fault.SemFault.{SemFault}
 use Rattle.contract.specs.declared.fault.SemFault.TheVariants.{Useless, Leaves128}
 use Rattle.contract.specs.declared.interval.Interval.{Interval}
-use Rattle.states.specs.States.{StateMaps, total_of, in_token}
+use Rattle.contract.specs.States.States.{StateMaps, total_of, in_token}
 use Rattle.contract.specs.Tree.{ContractTree, close, pay, if_obs, when, let_be, assert}
 use Rattle.evaluation.specs.Evaluation.{eval, visited, holds}
 use Rattle.evaluation.specs.Numbers.{all_fit}

@@ -6,7 +6,7 @@ use Rattle.contract.specs.declared.fault.SemFault.{SemFault}
 use Rattle.contract.specs.declared.fault.SemFault.TheVariants.{Ambiguous, Useless, Leaves128, Memory}
 use Rattle.contract.specs.declared.input.Input.{Input}
 use Rattle.contract.specs.declared.interval.Interval.{Interval}
-use Rattle.states.specs.States.{StateMaps}
+use Rattle.contract.specs.States.States.{StateMaps}
 use Rattle.contract.specs.Tree.{ContractTree}
 use Rattle.evaluation.specs.Numbers.{all_fit}
 use Rattle.semantics.specs.Walk.{Standing, Walk, then_from, then_walk, answer_of}

@@ -5,7 +5,7 @@ use Rattle.contract.specs.declared.fault.SemFault.{SemFault}
 use Rattle.contract.specs.declared.fault.SemFault.TheVariants.{Leaves128}
 use Rattle.contract.specs.declared.input.Input.{Input}
 use Rattle.contract.specs.declared.interval.Interval.{Interval}
-use Rattle.states.specs.States.{StateMaps}
+use Rattle.contract.specs.States.States.{StateMaps}
 use Rattle.contract.specs.Tree.{ActionTree, ContractTree}
 use Rattle.evaluation.specs.Numbers.{all_fit, within}
 use Rattle.semantics.specs.Applying.{matches, tried}

@@ -5,16 +5,16 @@ use Rattle.std.specs.Option.{is_none}
 use Rattle.std.proofs.lemmas.Int.{ints}
 use Rattle.std.specs.Int.{int_min}
 use Rattle.std.specs.FinMap.{entries, empty}
-use Rattle.names.specs.declared.token.Token.{Token}
-use Rattle.names.specs.declared.party.Party.{Party}
-use Rattle.names.specs.declared.payee.Payee.{Payee}
-use Rattle.names.specs.declared.payee.Payee.TheVariants.{Account as ToAccount, Party as ToParty}
+use Rattle.contract.specs.Names.declared.token.Token.{Token}
+use Rattle.contract.specs.Names.declared.party.Party.{Party}
+use Rattle.contract.specs.Names.declared.payee.Payee.{Payee}
+use Rattle.contract.specs.Names.declared.payee.Payee.TheVariants.{Account as ToAccount, Party as ToParty}
 use Rattle.contract.specs.declared.fault.SemFault.{SemFault}
 use Rattle.contract.specs.declared.fault.SemFault.TheVariants.{InvalidInterval, IntervalInPast, Useless, Ambiguous, NoMatch}
 use Rattle.contract.specs.declared.input.Input.{Input}
 use Rattle.contract.specs.declared.input.Input.TheVariants.{Deposit, Choice, Notify}
 use Rattle.contract.specs.declared.interval.Interval.{Interval}
-use Rattle.states.specs.States.{StateMaps, with_money, total_of}
+use Rattle.contract.specs.States.States.{StateMaps, with_money, total_of}
 use Rattle.contract.specs.Tree.{ContractTree, close, pay, if_obs, when, let_be, assert}
 use Rattle.evaluation.specs.Evaluation.{eval, visited, holds, looked}
 use Rattle.semantics.specs.Walk.{then_branch, else_branch, Standing, standing, Walk, ended, then_from, then_walk}
@@ -24,7 +24,7 @@ use Rattle.semantics.specs.Settling.{reduction_then}
 use Rattle.semantics.specs.Applying.{taken, unmatched}
 use Rattle.semantics.specs.Transaction.{trimmed}
 use Rattle.semantics.specs.Computed.{pay_step, refunds, settled, first_match, first_match_index, tried_to_match, take_match, applied, one_input, all_inputs, from_start}
-use Rattle.states.specs.States.{counted}
+use Rattle.contract.specs.States.States.{counted}
 use Rattle.semantics.specs.Money.{brought, deposited, paid_out, MoneyIsKept}
 use Rattle.semantics.proofs.Computing.{computed_by}
 use Rattle.semantics.proofs.MoneySums.{no_more, no_first, grows, shrinks, paid_out_append, refunds_pay_all, nothing_left}

@@ -7,25 +7,25 @@ use Rattle.std.specs.Prelude.{slice_get}
 use Rattle.std.specs.Option.{is_none, unwrap_or}
 use Rattle.std.specs.Ordering.{int_eq}
 use Rattle.std.specs.FinMap.{entries, empty, get-entries, entries-insert, entries-from_sorted}
-use Rattle.collections.proofs.Maps.{no_entries}
-use Rattle.collections.proofs.Total.{entries-remove}
-use Rattle.names.specs.declared.token.Token.{Token}
-use Rattle.names.specs.declared.party.Party.{Party}
-use Rattle.names.specs.declared.account.Account.{Account}
-use Rattle.names.specs.declared.payee.Payee.{Payee}
-use Rattle.names.specs.declared.payee.Payee.TheVariants.{Account as ToAccount, Party as ToParty}
-use Rattle.names.specs.Orders.{account_cmp}
-use Rattle.names.specs.Totals.{account_total}
-use Rattle.names.proofs.Exact.{account_exact}
+use Rattle.contract.proofs.FromCollections.Maps.{no_entries}
+use Rattle.contract.proofs.FromCollections.Total.{entries-remove}
+use Rattle.contract.specs.Names.declared.token.Token.{Token}
+use Rattle.contract.specs.Names.declared.party.Party.{Party}
+use Rattle.contract.specs.Names.declared.account.Account.{Account}
+use Rattle.contract.specs.Names.declared.payee.Payee.{Payee}
+use Rattle.contract.specs.Names.declared.payee.Payee.TheVariants.{Account as ToAccount, Party as ToParty}
+use Rattle.contract.specs.Names.Orders.{account_cmp}
+use Rattle.contract.specs.Names.Totals.{account_total}
+use Rattle.contract.proofs.FromNames.Exact.{account_exact}
 use Rattle.contract.specs.declared.fault.SemFault.{SemFault}
 use Rattle.contract.specs.declared.fault.SemFault.TheVariants.{InvalidInterval, IntervalInPast, Useless, Ambiguous, NoMatch}
 use Rattle.contract.specs.declared.input.Input.{Input}
 use Rattle.contract.specs.declared.input.Input.TheVariants.{Deposit, Choice, Notify}
 use Rattle.contract.specs.declared.interval.Interval.{Interval}
 use Rattle.contract.specs.declared.payment.Payment.{Payment}
-use Rattle.states.specs.States.{StateMaps, AllPositive, with_money, money_of}
+use Rattle.contract.specs.States.States.{StateMaps, AllPositive, with_money, money_of}
 use Rattle.contract.specs.Tree.{ContractTree, close, pay, if_obs, when, let_be, assert}
-use Rattle.collections.proofs.Positive.{AllPositive-put, AllPositive-where_key, AllPositive-find}
+use Rattle.contract.proofs.FromCollections.Positive.{AllPositive-put, AllPositive-where_key, AllPositive-find}
 use Rattle.evaluation.specs.Evaluation.{eval, visited, holds, looked}
 use Rattle.semantics.specs.Walk.{Standing, standing, Walk, ended, then_from, then_walk}
 use Rattle.evaluation.specs.Path.{waits_for}

@@ -1,15 +1,15 @@
 -- A Pay goes on with what follows it, and its sums come after the numbers of its amount.
 use Rattle.std.proofs.Common.{◌≡◌, ℤ, pos, Bool, true, false, cond, ◌&&◌, List, [], refl, sym, int_lt, Ok, Err, Some}
 use Rattle.std.specs.Int.{int_min}
-use Rattle.names.specs.declared.party.Party.{Party}
-use Rattle.names.specs.declared.payee.Payee.{Payee}
-use Rattle.names.specs.declared.token.Token.{Token}
+use Rattle.contract.specs.Names.declared.party.Party.{Party}
+use Rattle.contract.specs.Names.declared.payee.Payee.{Payee}
+use Rattle.contract.specs.Names.declared.token.Token.{Token}
 use Rattle.contract.specs.declared.fault.SemFault.{SemFault}
 use Rattle.contract.specs.declared.fault.SemFault.TheVariants.{Leaves128, Memory}
-use Rattle.states.specs.States.{StateMaps}
+use Rattle.contract.specs.States.States.{StateMaps}
 use Rattle.contract.specs.Tree.{ContractTree, close}
 use Rattle.evaluation.specs.Numbers.{all_fit, within}
-use Rattle.collections.specs.Answers.{Aside}
+use Rattle.contract.specs.Collections.Answers.{Aside}
 use Rattle.semantics.specs.Reduction.{Reduction, balance, debited, account_sums, paying, not_paying}
 use Rattle.semantics.specs.Computed.{pay_step}
 use Rattle.semantics.specs.Reduced.{goes, reply}

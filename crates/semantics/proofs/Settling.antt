@@ -3,10 +3,10 @@ use Rattle.std.proofs.Common.{◌≡◌, ℕ, suc, ◌+◌, ◌<◌, Bool, true,
 use Rattle.contract.specs.declared.fault.SemFault.{SemFault}
 use Rattle.contract.specs.declared.fault.SemFault.TheVariants.{Ambiguous, Leaves128, Memory}
 use Rattle.contract.specs.declared.interval.Interval.{Interval}
-use Rattle.states.specs.States.{StateMaps}
+use Rattle.contract.specs.States.States.{StateMaps}
 use Rattle.contract.specs.Tree.{ContractTree, close, pay, if_obs, when, let_be, assert}
 use Rattle.semantics.specs.Walk.{Standing, standing, Walk, ended, answer_of}
-use Rattle.collections.specs.Answers.{Aside}
+use Rattle.contract.specs.Collections.Answers.{Aside}
 use Rattle.evaluation.specs.Numbers.{all_fit}
 use Rattle.semantics.specs.Reduction.{Reduction, choosing, timing_out, binding, asserting}
 use Rattle.semantics.specs.Settling.{reduction_then}

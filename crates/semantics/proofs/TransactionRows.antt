@@ -4,16 +4,16 @@ use Rattle.std.specs.Option.{unwrap_or}
 use Rattle.std.specs.Ordering.{eq_by_cmp}
 use Rattle.std.specs.FinMap.{get, insert, remove, empty, entries, get-empty, get-insert, get-remove, get-from_sorted, entries-insert, entries-from_sorted, len-empty, len-entries, same_map}
 use Rattle.std.specs.FinMap.Entries.{put}
-use Rattle.names.specs.declared.account.Account.{Account}
-use Rattle.names.specs.Orders.{account_cmp, bytes_cmp}
-use Rattle.names.specs.Totals.{account_total, bytes_total}
-use Rattle.names.proofs.Exact.{account_exact}
-use Rattle.states.specs.States.{with_money}
+use Rattle.contract.specs.Names.declared.account.Account.{Account}
+use Rattle.contract.specs.Names.Orders.{account_cmp, bytes_cmp}
+use Rattle.contract.specs.Names.Totals.{account_total, bytes_total}
+use Rattle.contract.proofs.FromNames.Exact.{account_exact}
+use Rattle.contract.specs.States.States.{with_money}
 use Rattle.evaluation.specs.Numbers.{fits}
 use Rattle.semantics.specs.Reduction.{account_of, balance}
 use Rattle.evaluation.specs.Evaluation.{quotient}
 use Rattle.semantics.specs.Computed.{applied, one_input, from_start, computed}
-use Rattle.names.specs.Equal.{ada}
+use Rattle.contract.specs.Names.Equal.{ada}
 use Rattle.semantics.specs.Rows.{party_a, party_b, party_x, name_x, a_has_three, two_accounts, nothing}
 use Rattle.semantics.specs.Rows.{PaysWhatThereIs, PaysNothing, PaysZero, PaysItself, EntersNothing, MinusSevenByTwoIsBound, SevenByZeroIsBound, LeastIsBound, LeastByMinusOneIsRefused, CondIsBound, CondIsRefused, LaterIsBound, IfChooses, FalseAndFails, TrueAndIsRefused, TrueOrIsSilent, FirstIsTaken, EndsAreChosen, OutsideIsNoMatch, ZeroIsDeposited, RefundsInOrder, CloseIsUseless}
 use Rattle.semantics.proofs.Refunds.{entries-refund}

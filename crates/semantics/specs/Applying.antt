@@ -3,10 +3,10 @@ use Rattle.std.specs.Prelude.{◌≡◌, ℕ, suc, ◌<◌, ℤ, pos, ◌+ℤ◌
 use Rattle.std.specs.List.{list_any}
 use Rattle.std.specs.Ordering.{int_eq}
 use Rattle.std.specs.FinMap.{insert}
-use Rattle.names.specs.Equal.{same_party, same_token, same_choice_id}
-use Rattle.names.specs.declared.party.Party.{Party}
-use Rattle.names.specs.declared.token.Token.{Token}
-use Rattle.names.specs.declared.bound.Bound.{Bound}
+use Rattle.contract.specs.Names.Equal.{same_party, same_token, same_choice_id}
+use Rattle.contract.specs.Names.declared.party.Party.{Party}
+use Rattle.contract.specs.Names.declared.token.Token.{Token}
+use Rattle.contract.specs.Names.declared.bound.Bound.{Bound}
 use Rattle.contract.specs.declared.fault.SemFault.{SemFault}
 use Rattle.contract.specs.declared.fault.SemFault.TheVariants.{NoMatch}
 use Rattle.contract.specs.declared.input.Input.{Input}
@@ -14,7 +14,7 @@ use Rattle.contract.specs.declared.input.Input.TheVariants.{Deposit, Choice, Not
 use Rattle.contract.specs.declared.interval.Interval.{Interval}
 use Rattle.contract.specs.declared.warning.Warning.{Warning}
 use Rattle.contract.specs.declared.warning.Warning.TheVariants.{NonPositiveDeposit}
-use Rattle.states.specs.States.{StateMaps, with_money}
+use Rattle.contract.specs.States.States.{StateMaps, with_money}
 use Rattle.contract.specs.Tree.{ActionTree, deposit, choice, notify, ContractTree}
 use Rattle.evaluation.specs.Numbers.{within}
 use Rattle.evaluation.specs.Evaluation.{eval, visited, holds, looked}

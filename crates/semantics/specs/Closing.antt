@@ -1,11 +1,11 @@
 -- Closing after the last timeout: with neither inputs nor waiting, a contract runs to its end.
 use Rattle.std.specs.Prelude.{◌≡◌, ℤ, ◌≤ℤ◌, [], ◌⊎◌, Option, Result, Ok, Err, IfSome}
 use Rattle.std.specs.FinMap.{entries}
-use Rattle.names.specs.declared.token.Token.{Token}
+use Rattle.contract.specs.Names.declared.token.Token.{Token}
 use Rattle.contract.specs.declared.fault.SemFault.{SemFault}
 use Rattle.contract.specs.declared.fault.SemFault.TheVariants.{Useless, Leaves128}
 use Rattle.contract.specs.declared.interval.Interval.{Interval}
-use Rattle.states.specs.States.{StateMaps, total_of}
+use Rattle.contract.specs.States.States.{StateMaps, total_of}
 use Rattle.contract.specs.Tree.{ContractTree, close}
 use Rattle.evaluation.specs.Timeouts.{last}
 use Rattle.semantics.specs.Walk.{Standing, answer_of}

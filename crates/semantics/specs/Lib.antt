@@ -12,7 +12,5 @@ pub mod Closing
 pub mod Laws
 pub mod Answer
 pub mod Rows
-pub use Rattle.evaluation.specs.Numbers
-pub use Rattle.evaluation.specs.Evaluation
-pub use Rattle.evaluation.specs.Path
-pub use Rattle.evaluation.specs.Timeouts
+-- the crates below, passed on
+pub use Rattle.evaluation.specs as Evaluation

@@ -4,7 +4,7 @@ use Rattle.std.specs.FinMap.{entries}
 use Rattle.contract.specs.declared.input.Input.{Input}
 use Rattle.contract.specs.declared.interval.Interval.{Interval}
 use Rattle.contract.specs.declared.payment.Payment.{Payment}
-use Rattle.states.specs.States.{StateMaps, AllPositive}
+use Rattle.contract.specs.States.States.{StateMaps, AllPositive}
 use Rattle.contract.specs.Tree.{ContractTree}
 use Rattle.semantics.specs.Walk.{Standing}
 use Rattle.semantics.specs.Computed.{computed}

@@ -4,7 +4,7 @@ use Rattle.contract.specs.declared.fault.SemFault.{SemFault}
 use Rattle.contract.specs.declared.fault.SemFault.TheVariants.{Leaves128}
 use Rattle.contract.specs.declared.warning.Warning.{Warning}
 use Rattle.contract.specs.declared.payment.Payment.{Payment}
-use Rattle.states.specs.States.{StateMaps}
+use Rattle.contract.specs.States.States.{StateMaps}
 use Rattle.contract.specs.Tree.{ContractTree}
 use Rattle.evaluation.specs.Numbers.{all_fit}
 pub use Rattle.evaluation.specs.Path.{Turn, refund, next, then_branch, else_branch, timed_out, in_case}

@@ -1,13 +1,12 @@
 //! What a contract's accounts hold, and how that changes.
 ghost use Rattle.std.specs.Prelude.{◌≡◌, [], ◌∷◌, OnOk, pos, ◌+ℤ◌, ◌≤ℤ◌, ◌<ℤ◌};
 ghost use Rattle.std.specs.Int.{int_min};
-ghost use Rattle.states.specs.States.{with_money};
+ghost use Rattle.contract.specs.States.States.{with_money};
 ghost use Rattle.evaluation.specs.Numbers.{within};
-ghost use Rattle.collections.specs.Answers.{Aside};
+ghost use Rattle.contract.specs.Collections.Answers.{Aside};
 ghost use Rattle.semantics.specs.Reduction.{account_of, balance, debited, account_sums, credited};
 
-use collections::Memory;
-use contract::{Party, Payee, SemFault, State, Token};
+use contract::{Memory, Party, Payee, SemFault, State, Token};
 use evaluation::sum;
 
 /// The lesser of what an account holds and of what is due.

@@ -2,7 +2,7 @@
 //! types.
 ghost use Rattle.std.specs.Prelude.{◌≡◌, IfOk};
 
-use collections::{Memory, TryClone};
+use contract::{Memory, TryClone};
 
 // dropped once
 pub(crate) fn three_copies<A: TryClone + Drop, B: TryClone + Drop, C: TryClone>(

@@ -2,9 +2,9 @@
 ghost use Rattle.std.specs.Prelude.{◌≡◌, ◌++◌, OnOk, IfOk};
 ghost use Rattle.std.specs.List.{list_any};
 ghost use Rattle.std.specs.Option.{IfSome};
-ghost use Rattle.names.specs.Equal.{same_party, same_token, same_choice_id};
+ghost use Rattle.contract.specs.Names.Equal.{same_party, same_token, same_choice_id};
 ghost use Rattle.evaluation.specs.Numbers.{within};
-ghost use Rattle.collections.specs.Answers.{Aside};
+ghost use Rattle.contract.specs.Collections.Answers.{Aside};
 ghost use Rattle.semantics.specs.Walk.{standing};
 ghost use Rattle.evaluation.specs.Path.{waits_for};
 ghost use Rattle.semantics.specs.Applying.{agrees, in_bound, matches_within, taken, taken_numbers, taken_warnings};
@@ -15,8 +15,9 @@ ghost use Rattle.semantics.specs.Answer.{Continues, tree_of_next};
 use crate::accounts::deposit;
 use crate::copies::three_copies;
 use crate::log::Log;
-use collections::{Memory, Same};
-use contract::{Bound, ChoiceId, Input, Interval, Party, SemFault, State, Token, Warning};
+use contract::{
+    Bound, ChoiceId, Input, Interval, Memory, Party, Same, SemFault, State, Token, Warning,
+};
 use evaluation::{Parts, Wait};
 
 /// Applies an input to a quiet contract (Marlowe specification version 3, "Apply input"): where the first case that

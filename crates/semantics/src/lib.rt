@@ -15,6 +15,7 @@ mod reductions;
 mod steps;
 mod transaction;
 
+pub use evaluation;
 pub use inputs::{apply, matches, matching_case, take};
 pub use laws::{
     accounts_stay_above_zero, contracts_close_after_the_last_timeout, contracts_settle_in_one_way,

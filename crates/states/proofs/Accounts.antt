@@ -12,7 +12,7 @@ use Rattle.names.specs.Orders.{account_cmp}
 use Rattle.names.specs.Totals.{account_total}
 use Rattle.states.specs.States.{StateMaps, money_of, with_money, counted, total_of}
 use Rattle.names.proofs.Exact.{account_exact}
-use Rattle.collections.proofs.Total.{total-insert, total-remove, entries-remove_first}
+use Rattle.names.proofs.FromCollections.Total.{total-insert, total-remove, entries-remove_first}
 
 -- a change of one account: what stands after it depends on whether the amount is 0
 by_zero : (s : StateMaps) (a : Account) (v : ℤ) (P : StateMaps → Type 0) → (v ≡ pos 0 → P (record s { accounts = remove s.accounts a })) → P (record s { accounts = insert s.accounts a v }) → P (with_money s a v)

@@ -3,3 +3,5 @@ pub mod Fed
 pub mod SameStates
 pub mod Starting
 pub mod States
+pub mod FromCollections
+pub mod FromNames

@@ -9,7 +9,7 @@ use Rattle.std.specs.FinMap.{FinMap, entries_sorted, get, insert, get-insert}
 use Rattle.std.specs.FinMap.Entries.{below_all, is_sorted}
 use Rattle.std.proofs.lemmas.List.Elements.{All-nil, All-cons}
 use Rattle.std.proofs.lemmas.Map.Lookups.{CmpEqualImpliesEq}
-use Rattle.collections.proofs.Places.{second, below_head, below_tail}
+use Rattle.names.proofs.FromCollections.Places.{second, below_head, below_tail}
 use Rattle.names.specs.Orders.{account_cmp}
 use Rattle.names.specs.Totals.{account_total, choice_id_total, bytes_total}
 use Rattle.names.proofs.Exact.{account_exact, choice_id_exact, bytes_exact}

@@ -2,7 +2,7 @@
 use Rattle.std.specs.Prelude.{ℤ, pos, Bool, int_lt, List, Option, Some, None, map, if◌then◌else◌}
 use Rattle.std.specs.List.{list_all}
 use Rattle.std.specs.FinMap.{empty, from_entries}
-use Rattle.collections.specs.Repeats.{has_repeat}
+use Rattle.names.specs.Collections.Repeats.{has_repeat}
 use Rattle.names.specs.declared.party.Party.{Party}
 use Rattle.names.specs.declared.token.Token.{Token}
 use Rattle.names.specs.declared.account.Account.{Account}

@@ -4,8 +4,8 @@ use Rattle.std.specs.Option.{unwrap_or}
 use Rattle.std.specs.Ordering.{int_eq}
 use Rattle.std.specs.FinMap as map
 use Rattle.std.specs.FinMap.{FinMap}
-pub use Rattle.collections.specs.Positive.{AllPositive}
-use Rattle.collections.specs.Total.{total}
+pub use Rattle.names.specs.Collections.Positive.{AllPositive}
+use Rattle.names.specs.Collections.Total.{total}
 use Rattle.names.specs.declared.token.Token.{Token}
 use Rattle.names.specs.declared.account.Account.{Account}
 use Rattle.names.specs.declared.choice_id.ChoiceId.{ChoiceId}

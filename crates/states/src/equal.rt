@@ -2,7 +2,7 @@
 ghost use Rattle.std.specs.Prelude.{◌≡◌, ◌↔◌, IsTrue};
 
 use crate::state::State;
-use collections::{Same, same_entries};
+use names::collections::{Same, same_entries};
 use std::hash::{Hash, Hasher};
 
 impl Same for State {
@@ -40,8 +40,8 @@ fn same_time(a: &State, b: &State) -> bool
 }
 
 impl PartialEq for State {
-    ghost use Rattle.collections.specs.Same.{same_by};
-    ghost use Rattle.collections.proofs.SameLaws.{same_by-partial};
+    ghost use Rattle.names.specs.Collections.Same.{same_by};
+    ghost use Rattle.names.proofs.FromCollections.SameLaws.{same_by-partial};
     ghost use Rattle.states.specs.contracts.state.State as it;
 
     ghost eq = { same_by it.the_row.coded };
@@ -54,7 +54,7 @@ impl PartialEq for State {
 }
 
 impl Eq for State {
-    ghost use Rattle.collections.proofs.SameLaws.{same_by-equiv};
+    ghost use Rattle.names.proofs.FromCollections.SameLaws.{same_by-equiv};
     ghost use Rattle.states.specs.contracts.state.State as it;
 
     ghost laws = { same_by-equiv it.the_row.coded };
@@ -62,7 +62,7 @@ impl Eq for State {
 
 impl Hash for State {
     ghost use Rattle.std.proofs.Common.{ap};
-    ghost use Rattle.collections.proofs.SameLaws.{same_by_decides};
+    ghost use Rattle.names.proofs.FromCollections.SameLaws.{same_by_decides};
     ghost use Rattle.states.specs.Hashing.{state_fed};
     ghost use Rattle.states.specs.contracts.state.State as it;
 

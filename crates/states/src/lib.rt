@@ -10,4 +10,6 @@ mod state;
 
 pub use fault::StateFault;
 pub use laws::{first_account_is_least, sets_are_found, totals_follow_sets};
+pub use names;
+pub use names::collections;
 pub use state::State;

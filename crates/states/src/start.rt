@@ -3,13 +3,13 @@ ghost use Rattle.std.specs.Prelude.{◌≡◌, IfOk, Err, if◌then◌else◌};
 ghost use Rattle.std.specs.Option.{MatchOption};
 ghost use Rattle.std.specs.Result.{IsOkUnless};
 ghost use Rattle.std.specs.List.{list_all};
-ghost use Rattle.collections.specs.Repeats.{has_key, has_repeat};
+ghost use Rattle.names.specs.Collections.Repeats.{has_key, has_repeat};
 ghost use Rattle.names.specs.Orders.{account_cmp};
 ghost use Rattle.states.specs.Start.{is_positive, entry_of, entries_of, start_fault, start_of};
 
 use crate::fault::StateFault;
 use crate::state::State;
-use collections::{Entries, Memory, TryClone};
+use names::collections::{Entries, Memory, TryClone};
 use names::{Account, Party, Token};
 use std::alloc::Global;
 

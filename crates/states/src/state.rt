@@ -4,7 +4,7 @@ ghost use Rattle.std.specs.Option.{option_copied};
 ghost use Rattle.std.specs.FinMap as map;
 ghost use Rattle.states.specs.States.{of_entries, money_of, with_money, AllPositive};
 
-use collections::{Entries, Memory, Probe, Text, TryClone};
+use names::collections::{Entries, Memory, Probe, Text, TryClone};
 use names::{Account, ChoiceId, Party, Token};
 use std::alloc::Global;
 use std::cmp::Ordering;

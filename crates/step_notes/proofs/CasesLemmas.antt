@@ -7,8 +7,8 @@ use Rattle.contract.specs.declared.interval.Interval.{Interval}
 use Rattle.contract.specs.declared.payment.Payment.{Payment}
 use Rattle.contract.specs.declared.warning.Warning.{Warning}
 use Rattle.contract.specs.Tree.{ActionTree, ContractTree}
-use Rattle.states.specs.States.{StateMaps}
-use Rattle.semantics.specs.Walk.{Standing, Walk, standing, answer_of}
+use Rattle.contract.specs.States.States.{StateMaps}
+use Rattle.machine.specs.Semantics.Walk.{Standing, Walk, standing, answer_of}
 use Rattle.step_notes.specs.declared.spelling.Spelling.{Spelling}
 use Rattle.step_notes.specs.StepLines.{case_line, case_lines}
 use Rattle.step_notes.specs.Steps.{left_text, moment, outcome_text}

@@ -1,7 +1,7 @@
 -- Worked rows of the lines, computed on the definitions.
 use Rattle.std.specs.Prelude.{◌≡◌, pos, true, [], ◌∷◌, ◌++◌, Some, None, Ok, Err, codes}
-use Rattle.names.specs.declared.party.Party.TheVariants.{Address, Role}
-use Rattle.names.specs.Equal.{ada}
+use Rattle.contract.specs.Names.declared.party.Party.TheVariants.{Address, Role}
+use Rattle.contract.specs.Names.Equal.{ada}
 use Rattle.contract.specs.declared.fault.SemFault.TheVariants.{Leaves128}
 use Rattle.step_notes.specs.StepLines.{deposit_line, choice_line, until_line, headed}
 use Rattle.step_notes.specs.StepObjects.{deposit_object, choice_object, notify_object, until_text}

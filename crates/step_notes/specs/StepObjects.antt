@@ -2,18 +2,18 @@
 use Rattle.std.specs.Prelude.{ℕ, ◌+◌, ◌==◌, ℤ, Bool, true, false, if◌then◌else◌, List, [], ◌∷◌, ◌++◌, Option, Some, None, Result, Ok, Err, codes}
 use Rattle.serde_json.specs.Data.{string}
 use Rattle.serde_json.specs.Written.{compact_text}
-use Rattle.names.specs.declared.party.Party.{Party}
-use Rattle.names.specs.declared.token.Token.{Token}
-use Rattle.names.specs.declared.choice_id.ChoiceId.{ChoiceId}
-use Rattle.names.specs.declared.bound.Bound.{Bound}
+use Rattle.contract.specs.Names.declared.party.Party.{Party}
+use Rattle.contract.specs.Names.declared.token.Token.{Token}
+use Rattle.contract.specs.Names.declared.choice_id.ChoiceId.{ChoiceId}
+use Rattle.contract.specs.Names.declared.bound.Bound.{Bound}
 use Rattle.contract.specs.declared.fault.SemFault.{SemFault}
 use Rattle.contract.specs.declared.interval.Interval.{Interval}
 use Rattle.contract.specs.declared.payment.Payment.{Payment}
 use Rattle.contract.specs.declared.warning.Warning.{Warning}
 use Rattle.contract.specs.Tree.{ActionTree, deposit, choice, notify, ContractTree}
-use Rattle.states.specs.States.{StateMaps}
-use Rattle.evaluation.specs.Evaluation.{number_within, truth_within}
-use Rattle.evaluation.specs.Path.{waits_for}
+use Rattle.contract.specs.States.States.{StateMaps}
+use Rattle.machine.specs.Evaluation.Evaluation.{number_within, truth_within}
+use Rattle.machine.specs.Evaluation.Path.{waits_for}
 use Rattle.next_inputs.specs.Opening.{waits_until}
 use Rattle.json_write_contracts.specs.WrittenNames.{wide_json, token_json}
 use Rattle.json_write_outcomes.specs.WrittenOutcome.{payment_json, warning_json}

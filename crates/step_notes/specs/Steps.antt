@@ -7,11 +7,11 @@ use Rattle.contract.specs.declared.interval.Interval.{Interval}
 use Rattle.contract.specs.declared.payment.Payment.{Payment}
 use Rattle.contract.specs.declared.warning.Warning.{Warning}
 use Rattle.contract.specs.Tree.{ContractTree}
-use Rattle.states.specs.States.{StateMaps}
-use Rattle.semantics.specs.Walk.{Standing, answer_of}
-use Rattle.semantics.specs.Computed.{computed}
-use Rattle.table.specs.Along.{has_cont}
-use Rattle.table.specs.Flat.{Flat, cont_tree}
+use Rattle.contract.specs.States.States.{StateMaps}
+use Rattle.machine.specs.Semantics.Walk.{Standing, answer_of}
+use Rattle.machine.specs.Semantics.Computed.{computed}
+use Rattle.machine.specs.Table.Along.{has_cont}
+use Rattle.machine.specs.Table.Flat.{Flat, cont_tree}
 use Rattle.machine.specs.declared.datum.Datum.{Datum}
 use Rattle.step_notes.specs.declared.spelling.Spelling.{Spelling}
 use Rattle.step_notes.specs.declared.spelling.Spelling.TheVariants.{Lines, Objects}

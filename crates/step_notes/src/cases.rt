@@ -1,21 +1,20 @@
 //! What a contract waits for.
 ghost use Rattle.std.specs.Prelude.{◌≡◌, ◌<◌, ◌++◌, length, OnOk, IfOk, codes, string_bytes};
-ghost use Rattle.evaluation.specs.Path.{waits_for};
-ghost use Rattle.evaluation.specs.Parts.{wait_tree};
-ghost use Rattle.table.specs.Flat.{Has, a_cont, a_value, an_observation, value_tree, observation_tree, cont_tree};
-ghost use Rattle.evaluation.specs.Parts.{StandsWait};
+ghost use Rattle.machine.specs.Evaluation.Path.{waits_for};
+ghost use Rattle.machine.specs.Evaluation.Parts.{wait_tree};
+ghost use Rattle.machine.specs.Table.Flat.{Has, a_cont, a_value, an_observation, value_tree, observation_tree, cont_tree};
+ghost use Rattle.machine.specs.Evaluation.Parts.{StandsWait};
 ghost use Rattle.next_inputs.specs.Opening.{waits_until};
 ghost use Rattle.step_notes.specs.StepLines as told;
 ghost use Rattle.step_notes.specs.StepLines.{case_line, case_lines, paid_line, leaving_line, deposit_line, notify_line, choice_start, choice_words, choice_line, last_line, until_line, waiting_lines};
 
 use crate::words::{money_text, put_bounds};
-use collections::Memory;
-use contract::{Bound, ChoiceId, Interval, Party, SemFault, State, Token};
-use evaluation::{Parts, Wait};
+use contract::{Bound, ChoiceId, Interval, Memory, Party, SemFault, State, Token};
 use json_write_contracts::term_text;
+use machine::evaluation::{Parts, Wait};
+use machine::table::{Cont, Table};
 use next_inputs::waits_until;
 use std::alloc::Global;
-use table::{Cont, Table};
 
 fn paid_line(
     alloc: Global,

@@ -2,7 +2,7 @@
 ghost use Rattle.std.specs.Prelude.{◌≡◌, ◌++◌, ◌∷◌, [], true, OnOk, IfOk, if◌then◌else◌, string_bytes};
 ghost use Rattle.step_notes.specs.StepLines.{headed};
 
-use collections::Memory;
+use contract::Memory;
 use std::alloc::{AllocError, Global};
 
 // A byte, behind the head where it begins a line.

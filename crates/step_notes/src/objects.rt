@@ -1,24 +1,23 @@
 //! What is told of an accepted step, as the rest of an object.
 ghost use Rattle.std.specs.Prelude.{◌≡◌, ◌++◌, IfOk, OnOk, codes, string_bytes};
-ghost use Rattle.evaluation.specs.Parts.{StandsWait, wait_tree};
-ghost use Rattle.evaluation.specs.Path.{waits_for};
+ghost use Rattle.machine.specs.Evaluation.Parts.{StandsWait, wait_tree};
+ghost use Rattle.machine.specs.Evaluation.Path.{waits_for};
 ghost use Rattle.json_write_outcomes.specs.WrittenOutcome.{payment_json, warning_json};
 ghost use Rattle.serde_json.specs.Written.{compact_text};
-ghost use Rattle.table.specs.Flat.{Has, a_cont, a_value, an_observation, cont_tree, observation_tree, value_tree};
+ghost use Rattle.machine.specs.Table.Flat.{Has, a_cont, a_value, an_observation, cont_tree, observation_tree, value_tree};
 ghost use Rattle.step_notes.specs.StepObjects as told;
 ghost use Rattle.step_notes.specs.StepObjects.{comma, number_text, payment_objects, warning_objects, amount_text, truth_text, deposit_object, bound_object, bound_objects, choice_head, choice_object, notify_object, case_object, case_objects, until_text, waiting_members, done_members};
 
 use crate::terms::{OfPayment, OfWarning};
-use collections::Memory;
 use contract::{
-    Bound, ChoiceId, Interval, Outcome, Party, Payment, SemFault, State, Token, Warning,
+    Bound, ChoiceId, Interval, Memory, Outcome, Party, Payment, SemFault, State, Token, Warning,
 };
-use evaluation::{Parts, Wait};
 use json_write_contracts::term_text;
+use machine::evaluation::{Parts, Wait};
+use machine::table::{Cont, Table};
 use next_inputs::waits_until;
 use std::alloc::Global;
 use std::fmt::Write;
-use table::{Cont, Table};
 
 /// A comma before each item of a list but the first, by its index.
 pub fn comma(index: usize) -> &'static str

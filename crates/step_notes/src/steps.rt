@@ -1,6 +1,6 @@
 //! Steps.
 ghost use Rattle.std.specs.Prelude.{◌≡◌, ◌++◌, IfOk, OnOk, string_bytes};
-ghost use Rattle.table.specs.Flat.{Has, a_cont, cont_tree};
+ghost use Rattle.machine.specs.Table.Flat.{Has, a_cont, cont_tree};
 ghost use Rattle.step_notes.specs.StepLines.{payment_line, payment_lines, warning_line, warning_lines, outcome_lines};
 ghost use Rattle.step_notes.specs.Steps as told;
 ghost use Rattle.step_notes.specs.Steps.{moment};
@@ -10,13 +10,12 @@ use crate::indent::headed;
 use crate::objects::outcome_object;
 use crate::spelling::Spelling;
 use crate::words::payment_text;
-use collections::Memory;
-use contract::{Input, Interval, Outcome, Payment, SemFault, State, Warning};
+use contract::{Input, Interval, Memory, Outcome, Payment, SemFault, State, Warning};
+use machine::table::{Cont, Table};
 use machine::{Datum, compute};
 use places::warning_name;
 use std::alloc::{AllocError, Global};
 use std::fmt::Write;
-use table::{Cont, Table};
 
 /// A step, by what its builder was shown and what it brought.
 #[derive(Clone, Copy)]

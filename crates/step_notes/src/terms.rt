@@ -4,8 +4,7 @@ ghost use Rattle.serde_json.specs.Data.{Data};
 ghost use Rattle.json_write_contracts.specs.Tokens.{Keeps, Puts};
 ghost use Rattle.json_write_outcomes.specs.WrittenOutcome.{payment_json, warning_json};
 
-use collections::Memory;
-use contract::{Payment, Warning};
+use contract::{Memory, Payment, Warning};
 use json::Writer;
 use json_write_contracts::Term;
 use json_write_outcomes::{put_payment, put_warning};

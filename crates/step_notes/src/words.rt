@@ -3,8 +3,7 @@ ghost use Rattle.std.specs.Prelude.{◌≡◌, ◌++◌, IfOk, OnOk, string_byte
 ghost use Rattle.next_lines.specs.Lines.{money_text, bound_text, payment_text};
 ghost use Rattle.step_notes.specs.StepLines.{bounds_text, more_bounds};
 
-use collections::Memory;
-use contract::{Bound, Payment, Token};
+use contract::{Bound, Memory, Payment, Token};
 use json_write_contracts::term_text;
 use places::token_text;
 use std::alloc::Global;

@@ -4,7 +4,7 @@ ghost use Rattle.linear.specs.Linear.{Valuation, number_at};
 ghost use Rattle.symbols.specs.Symbols.{AreApart};
 ghost use Rattle.symbols.specs.Held.{IsSharpened, Cancels, RulesOut, IsNever};
 
-use collections::{Memory, TryClone};
+use evaluation::collections::{Memory, TryClone};
 use linear::Linear;
 
 // Whether they may cancel: as many terms, the same newest symbol, and constants that do.

@@ -1,7 +1,7 @@
 //! Symbols that have the number of an expression in a branch.
 ghost use Rattle.std.specs.Prelude.{◌≡◌, IfOk};
 
-use collections::{Items, Memory, TryClone};
+use evaluation::collections::{Items, Memory, TryClone};
 use linear::Linear;
 use std::alloc::Global;
 use std::marker::Model;

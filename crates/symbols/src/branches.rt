@@ -10,7 +10,7 @@ use crate::apart::{cancels, is_apart};
 use crate::branched::{Branched, SharedBranch};
 use crate::newest::first_looked;
 use crate::symbols::Symbols;
-use collections::{Items, Memory, TryClone};
+use evaluation::collections::{Items, Memory, TryClone};
 use linear::{Linear, is_below};
 
 // The most facts of a branch that is kept in another, and the most facts of a case that are looked at for one that

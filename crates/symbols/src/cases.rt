@@ -6,7 +6,7 @@ ghost use Rattle.symbols.specs.Cases.{IsSame, IsReplaced, IsNatural, IsNaturalWh
 use crate::branched::Branched;
 use crate::branches::is_taken;
 use crate::symbols::Symbols;
-use collections::{Memory, TryClone};
+use evaluation::collections::{Memory, TryClone};
 use linear::Linear;
 
 // The most comparisons that tell cases apart, one after another: 2.

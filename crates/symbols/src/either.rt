@@ -7,7 +7,7 @@ use crate::branched::{Branched, SharedBranch};
 use crate::branches::{keep_sides, lone_symbol, symbol_of_either};
 use crate::over::{lies_over, lowered, next_over};
 use crate::symbols::Symbols;
-use collections::{Memory, TryClone};
+use evaluation::collections::{Memory, TryClone};
 use linear::{Linear, greatest_of_both, is_below, least_of_both};
 
 // The most branches of a case, the newest, whose numbers are looked at: 8.

@@ -4,7 +4,7 @@ ghost use Rattle.linear.specs.Linear.{TermsBelow, IsFromEither, IsUpToEither};
 ghost use Rattle.linear.specs.Bounded.{numbered};
 ghost use Rattle.symbols.specs.Joined.{AreShared, AreJoined};
 
-use collections::{Items, Memory, TryClone};
+use evaluation::collections::{Items, Memory, TryClone};
 use linear::{Linear, MOST_TAKEN, Ranges, counted_with, is_below, shown};
 
 // Where those start, of the facts from a place on, of which it is asked whether another case shows them: the newest, as many as a

@@ -1,5 +1,5 @@
 //! Operations that have a symbol.
-use collections::{Memory, TryClone};
+use evaluation::collections::{Memory, TryClone};
 use linear::Linear;
 
 /// A product, or a quotient, and the symbol of its number.

@@ -2,7 +2,7 @@
 ghost use Rattle.std.specs.Prelude.{◌≡◌, ◌≤◌, drop, length, IfOk, OnOk};
 ghost use Rattle.symbols.specs.Held.{IsNewest};
 
-use collections::{Items, Memory, TryClone};
+use evaluation::collections::{Items, Memory, TryClone};
 use std::alloc::Global;
 
 /// The most operations and branches that are looked at, the newest: 48. Of expressions that aren't 0 as many are kept, and at most

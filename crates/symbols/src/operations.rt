@@ -8,7 +8,7 @@ ghost use Rattle.linear.specs.ResultRanges.{AreCorners, IsProductRange, IsTurned
 use crate::apart::cancels;
 use crate::named::Named;
 use crate::newest::{MOST_LISTED, first_looked, make_room};
-use collections::{Items, Memory, TryClone};
+use evaluation::collections::{Items, Memory, TryClone};
 use linear::{Bounds, Linear, Ranges};
 
 fn same_kind(left: bool, right: bool) -> bool

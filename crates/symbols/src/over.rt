@@ -1,6 +1,6 @@
 //! Expressions over numbers. What they are is looked for, and what is learned by them is asked again: so no clause is needed.
 use crate::symbols::Symbols;
-use collections::Memory;
+use evaluation::collections::Memory;
 use linear::{Linear, Term, is_below, negation};
 
 // The coefficient of a symbol in terms, 0 where it isn't there.

@@ -9,7 +9,7 @@ ghost use Rattle.symbols.specs.Parts.{IsParted, IsMultiple, GivesSum};
 use crate::apart::cancels;
 use crate::products::{learn_from, learn_product, learn_up_to};
 use crate::symbols::Symbols;
-use collections::Memory;
+use evaluation::collections::Memory;
 use linear::{Bounds, Linear, negation, product_range};
 
 // The most products of two symbols that a product is taken apart to: 4.

@@ -4,7 +4,7 @@ ghost use Rattle.linear.specs.Linear.{IsFrom, IsUpTo};
 ghost use Rattle.symbols.specs.Products.{LearnsFromMultiple, LearnsUpToMultiple, LearnsSum, LearnsProduct};
 
 use crate::symbols::Symbols;
-use collections::Memory;
+use evaluation::collections::Memory;
 use linear::{Bounds, Linear, negation};
 
 /// Learns how a product of two expressions, which lie in ranges, lies to multiples of them: where `x` isn't below 0 and `y` isn't

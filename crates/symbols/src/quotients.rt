@@ -5,7 +5,7 @@ ghost use Rattle.symbols.specs.Symbols.{Symbols as Known};
 ghost use Rattle.symbols.specs.Quotients.{GivesQuotient, LearnsRest, LearnsQuotient, LearnsDown, IsRoom, IsRoomAbove};
 
 use crate::symbols::Symbols;
-use collections::Memory;
+use evaluation::collections::Memory;
 use linear::{Linear, quotient};
 
 // How far below 0 it may lie what is left.

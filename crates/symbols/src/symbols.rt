@@ -22,7 +22,7 @@ use crate::parts::product_of_parts;
 use crate::products::learn_product;
 use crate::quotients::{learn_down, learn_quotient, number_quotient};
 use crate::within::{put_range, put_results};
-use collections::{Items, Memory, TryClone};
+use evaluation::collections::{Items, Memory, TryClone};
 use linear::{
     Bounds, Linear, MOST_FACTS, Ranges, follows, follows_newest, greatest_shown, least_shown,
     narrow, narrow_to, negation, product_range, quotient_range, refuted, shown, some_least,

@@ -7,7 +7,7 @@ ghost use Rattle.symbols.specs.Held.{operations_of};
 ghost use Rattle.symbols.specs.Within.{LieIn, HoldWhere, IsResultRange};
 
 use crate::named::Named;
-use collections::Memory;
+use evaluation::collections::Memory;
 use linear::{
     Bounds, Linear, Ranges, greatest_shown, least_shown, narrow_to, product_range, quotient_range,
 };

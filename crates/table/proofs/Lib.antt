@@ -6,3 +6,4 @@ pub mod CaseNumbers
 pub mod Lent
 pub mod Pushed
 pub mod SameFlat
+pub mod FromCollections

@@ -7,3 +7,8 @@ pub mod AlongLaws
 pub mod Leaves
 pub mod Hashing
 pub mod DecompileSupport
+-- the crates below, passed on
+pub use Rattle.contract.specs.Collections
+pub use Rattle.contract.specs.Names
+pub use Rattle.evaluation.specs as Evaluation
+pub use Rattle.nodes.specs as Nodes

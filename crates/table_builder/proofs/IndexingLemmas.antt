@@ -7,22 +7,22 @@ use Rattle.std.proofs.lemmas.Grind.{common_steps}
 use Rattle.std.proofs.lemmas.List.Quantifiers.{position-Some}
 use Rattle.std.proofs.lemmas.List.Folds.{list_any_at}
 use Rattle.indexmap.specs.IndexSet.{insert_key}
-use Rattle.collections.specs.Same.{same_by}
-use Rattle.collections.proofs.SameLaws.{same_by_from}
-use Rattle.nodes.specs.declared.entry.Entry.{Entry}
-use Rattle.nodes.specs.declared.cont.Cont.{Cont}
-use Rattle.nodes.specs.declared.value_node.ValueNode.{ValueNode}
-use Rattle.nodes.specs.declared.observation_node.ObservationNode.{ObservationNode}
-use Rattle.nodes.specs.declared.case_node.CaseNode.{CaseNode}
-use Rattle.nodes.specs.declared.cont_node.ContNode.{ContNode}
-use Rattle.nodes.specs.contracts.value_node.ValueNode as value
-use Rattle.nodes.specs.contracts.observation_node.ObservationNode as observation
-use Rattle.nodes.specs.contracts.case_node.CaseNode as case
-use Rattle.nodes.specs.contracts.cont_node.ContNode as cont
-use Rattle.nodes.specs.contracts.value_node.ValueNodePartialEq.TheImpl as value_eq
-use Rattle.nodes.specs.contracts.observation_node.ObservationNodePartialEq.TheImpl as observation_eq
-use Rattle.nodes.specs.contracts.case_node.CaseNodePartialEq.TheImpl as case_eq
-use Rattle.nodes.specs.contracts.cont_node.ContNodePartialEq.TheImpl as cont_eq
+use Rattle.table.specs.Collections.Same.{same_by}
+use Rattle.table.proofs.FromCollections.SameLaws.{same_by_from}
+use Rattle.table.specs.Nodes.declared.entry.Entry.{Entry}
+use Rattle.table.specs.Nodes.declared.cont.Cont.{Cont}
+use Rattle.table.specs.Nodes.declared.value_node.ValueNode.{ValueNode}
+use Rattle.table.specs.Nodes.declared.observation_node.ObservationNode.{ObservationNode}
+use Rattle.table.specs.Nodes.declared.case_node.CaseNode.{CaseNode}
+use Rattle.table.specs.Nodes.declared.cont_node.ContNode.{ContNode}
+use Rattle.table.specs.Nodes.contracts.value_node.ValueNode as value
+use Rattle.table.specs.Nodes.contracts.observation_node.ObservationNode as observation
+use Rattle.table.specs.Nodes.contracts.case_node.CaseNode as case
+use Rattle.table.specs.Nodes.contracts.cont_node.ContNode as cont
+use Rattle.table.specs.Nodes.contracts.value_node.ValueNodePartialEq.TheImpl as value_eq
+use Rattle.table.specs.Nodes.contracts.observation_node.ObservationNodePartialEq.TheImpl as observation_eq
+use Rattle.table.specs.Nodes.contracts.case_node.CaseNodePartialEq.TheImpl as case_eq
+use Rattle.table.specs.Nodes.contracts.cont_node.ContNodePartialEq.TheImpl as cont_eq
 use Rattle.table.specs.Flat.{Flat}
 use Rattle.table.specs.Pushing.{with_value, with_observation, with_case, with_cont}
 use Rattle.table_builder.specs.Putting.{nodes_of, found_or, put_value, put_observation, put_case, put_cont}

@@ -5,22 +5,22 @@ use Rattle.std.proofs.Common.{sym, ap, ◌∙◌, arith, length-append}
 use Rattle.std.proofs.Math.ListN.{get_or}
 use Rattle.std.proofs.lemmas.List.Quantifiers.{position-Some}
 use base.Stored.{Coded}
-use Rattle.collections.specs.Same.{same_by}
-use Rattle.collections.proofs.SameLaws.{same_by_decides}
-use Rattle.nodes.specs.declared.entry.Entry.{Entry}
-use Rattle.nodes.specs.declared.cont.Cont.{Cont}
-use Rattle.nodes.specs.declared.value_node.ValueNode.{ValueNode}
-use Rattle.nodes.specs.declared.value_node.ValueNode.TheVariants.{Constant}
-use Rattle.nodes.specs.declared.observation_node.ObservationNode.{ObservationNode}
-use Rattle.nodes.specs.declared.observation_node.ObservationNode.TheVariants.{TrueObs}
-use Rattle.nodes.specs.declared.case_node.CaseNode.{CaseNode}
-use Rattle.nodes.specs.declared.case_node.CaseNode.TheVariants.{Notify}
-use Rattle.nodes.specs.declared.cont_node.ContNode.{ContNode}
-use Rattle.nodes.specs.declared.cont_node.ContNode.TheVariants.{Close}
-use Rattle.nodes.specs.contracts.value_node.ValueNode as value
-use Rattle.nodes.specs.contracts.observation_node.ObservationNode as observation
-use Rattle.nodes.specs.contracts.case_node.CaseNode as case
-use Rattle.nodes.specs.contracts.cont_node.ContNode as cont
+use Rattle.table.specs.Collections.Same.{same_by}
+use Rattle.table.proofs.FromCollections.SameLaws.{same_by_decides}
+use Rattle.table.specs.Nodes.declared.entry.Entry.{Entry}
+use Rattle.table.specs.Nodes.declared.cont.Cont.{Cont}
+use Rattle.table.specs.Nodes.declared.value_node.ValueNode.{ValueNode}
+use Rattle.table.specs.Nodes.declared.value_node.ValueNode.TheVariants.{Constant}
+use Rattle.table.specs.Nodes.declared.observation_node.ObservationNode.{ObservationNode}
+use Rattle.table.specs.Nodes.declared.observation_node.ObservationNode.TheVariants.{TrueObs}
+use Rattle.table.specs.Nodes.declared.case_node.CaseNode.{CaseNode}
+use Rattle.table.specs.Nodes.declared.case_node.CaseNode.TheVariants.{Notify}
+use Rattle.table.specs.Nodes.declared.cont_node.ContNode.{ContNode}
+use Rattle.table.specs.Nodes.declared.cont_node.ContNode.TheVariants.{Close}
+use Rattle.table.specs.Nodes.contracts.value_node.ValueNode as value
+use Rattle.table.specs.Nodes.contracts.observation_node.ObservationNode as observation
+use Rattle.table.specs.Nodes.contracts.case_node.CaseNode as case
+use Rattle.table.specs.Nodes.contracts.cont_node.ContNode as cont
 use Rattle.table.specs.Flat.{Flat, Trees, trees, value_of, observation_of, case_of, cont_of, value_tree, observation_tree, case_tree, cont_tree}
 use Rattle.table.specs.Flat.{Part, a_value, an_observation, a_case, a_cont, value_parts, observation_parts, case_parts, cont_parts, Stands, AllStand, height_above, IsFlat, Agrees}
 use Rattle.table.specs.LevelLaws.{tree_is}

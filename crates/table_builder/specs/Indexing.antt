@@ -1,9 +1,9 @@
 -- No reader needs this file: it serves the steps in which a node is put into a table.
 use Rattle.std.specs.Prelude.{◌≡◌, ℕ, List, [], ◌∷◌, ◌++◌, Option, Some, None}
-use Rattle.nodes.specs.declared.value_node.ValueNode.{ValueNode}
-use Rattle.nodes.specs.declared.observation_node.ObservationNode.{ObservationNode}
-use Rattle.nodes.specs.declared.case_node.CaseNode.{CaseNode}
-use Rattle.nodes.specs.declared.cont_node.ContNode.{ContNode}
+use Rattle.table.specs.Nodes.declared.value_node.ValueNode.{ValueNode}
+use Rattle.table.specs.Nodes.declared.observation_node.ObservationNode.{ObservationNode}
+use Rattle.table.specs.Nodes.declared.case_node.CaseNode.{CaseNode}
+use Rattle.table.specs.Nodes.declared.cont_node.ContNode.{ContNode}
 use Rattle.table.specs.Flat.{Flat}
 use Rattle.table_builder.specs.Putting.{nodes_of}
 use Rattle.table_builder.specs.declared.node_index.Place.{Place}

@@ -2,17 +2,17 @@
 -- and that one's number serves; else the node goes to the end of its list. What comes of it is the table, and the number.
 use Rattle.std.specs.Prelude.{ℕ, ◌+◌, List, Option, Some, None, length, map, position, option_map}
 use base.Stored.{Coded}
-use Rattle.collections.specs.Same.{same_by}
-use Rattle.nodes.specs.declared.entry.Entry.{Entry}
-use Rattle.nodes.specs.declared.cont.Cont.{Cont}
-use Rattle.nodes.specs.declared.value_node.ValueNode.{ValueNode}
-use Rattle.nodes.specs.declared.observation_node.ObservationNode.{ObservationNode}
-use Rattle.nodes.specs.declared.case_node.CaseNode.{CaseNode}
-use Rattle.nodes.specs.declared.cont_node.ContNode.{ContNode}
-use Rattle.nodes.specs.contracts.value_node.ValueNode as value
-use Rattle.nodes.specs.contracts.observation_node.ObservationNode as observation
-use Rattle.nodes.specs.contracts.case_node.CaseNode as case
-use Rattle.nodes.specs.contracts.cont_node.ContNode as cont
+use Rattle.table.specs.Collections.Same.{same_by}
+use Rattle.table.specs.Nodes.declared.entry.Entry.{Entry}
+use Rattle.table.specs.Nodes.declared.cont.Cont.{Cont}
+use Rattle.table.specs.Nodes.declared.value_node.ValueNode.{ValueNode}
+use Rattle.table.specs.Nodes.declared.observation_node.ObservationNode.{ObservationNode}
+use Rattle.table.specs.Nodes.declared.case_node.CaseNode.{CaseNode}
+use Rattle.table.specs.Nodes.declared.cont_node.ContNode.{ContNode}
+use Rattle.table.specs.Nodes.contracts.value_node.ValueNode as value
+use Rattle.table.specs.Nodes.contracts.observation_node.ObservationNode as observation
+use Rattle.table.specs.Nodes.contracts.case_node.CaseNode as case
+use Rattle.table.specs.Nodes.contracts.cont_node.ContNode as cont
 use Rattle.table.specs.Flat.{Flat}
 use Rattle.table.specs.Pushing.{with_value, with_observation, with_case, with_cont}
 

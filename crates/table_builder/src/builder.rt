@@ -5,9 +5,9 @@ ghost use Rattle.table.specs.Flat.{nothing, trees, value_of, observation_of, cas
 ghost use Rattle.table_builder.specs.Putting.{put_value, put_observation, put_case, put_cont, others_in};
 
 use crate::node_index::{Nodes, Place};
-use collections::Memory;
 use std::alloc::Global;
 use std::marker::Model;
+use table::collections::Memory;
 use table::{CaseNode, Cont, ContNode, ObservationNode, Table, ValueNode};
 
 /// A table that is being made, in which equal nodes stand once. Clauses see it as the table's four lists.

@@ -2,11 +2,11 @@
 ghost use Rattle.std.specs.Prelude.{◌≡◌, ◌<◌, List, ◌++◌, [], ◌∷◌, length, position, IfOk, OnOk, OnErr};
 ghost use Rattle.table_builder.specs.Indexing.{IsPlace, with_node};
 
-use collections::{Memory, TryClone};
 use indexmap::IndexSet;
 use std::alloc::Global;
 use std::hash::Hash;
 use std::marker::Model;
+use table::collections::{Memory, TryClone};
 
 /// The nodes of one list, each once, in the order of their numbers. Clauses see them as a list.
 #[derive(Drop)]

@@ -4,7 +4,7 @@ use Rattle.std.specs.Fmt.{signed_decimal}
 use Rattle.json.proofs.OnLiterals.{json_on_literals}
 use Rattle.serde_json.specs.Find.{of_integer}
 use Rattle.serde_json.specs.Written.{number_text}
-use Rattle.names.specs.declared.bound.Bound.{Bound}
+use Rattle.table.specs.Names.declared.bound.Bound.{Bound}
 use Rattle.table_lines.specs.TableLines.{bound}
 
 -- an integer's digits

@@ -5,21 +5,21 @@ use Rattle.std.specs.Prelude.{ℕ, ◌+◌, List, [], ◌∷◌, ◌++◌, map, 
 use Rattle.std.specs.Fmt.{signed_decimal}
 use Rattle.serde_json.specs.Data.{string}
 use Rattle.serde_json.specs.Written.{compact_text}
-use Rattle.names.specs.declared.party.Party.{Party}
-use Rattle.names.specs.declared.payee.Payee.{Payee}
-use Rattle.names.specs.declared.token.Token.{Token}
-use Rattle.names.specs.declared.choice_id.ChoiceId.{ChoiceId}
-use Rattle.names.specs.declared.bound.Bound.{Bound}
-use Rattle.nodes.specs.declared.cont.Cont.{Cont}
-use Rattle.nodes.specs.declared.entry.Entry.{Entry}
-use Rattle.nodes.specs.declared.value_node.ValueNode.{ValueNode}
-use Rattle.nodes.specs.declared.value_node.ValueNode.TheVariants as values
-use Rattle.nodes.specs.declared.observation_node.ObservationNode.{ObservationNode}
-use Rattle.nodes.specs.declared.observation_node.ObservationNode.TheVariants as observations
-use Rattle.nodes.specs.declared.case_node.CaseNode.{CaseNode}
-use Rattle.nodes.specs.declared.case_node.CaseNode.TheVariants as cases
-use Rattle.nodes.specs.declared.cont_node.ContNode.{ContNode}
-use Rattle.nodes.specs.declared.cont_node.ContNode.TheVariants as conts
+use Rattle.table.specs.Names.declared.party.Party.{Party}
+use Rattle.table.specs.Names.declared.payee.Payee.{Payee}
+use Rattle.table.specs.Names.declared.token.Token.{Token}
+use Rattle.table.specs.Names.declared.choice_id.ChoiceId.{ChoiceId}
+use Rattle.table.specs.Names.declared.bound.Bound.{Bound}
+use Rattle.table.specs.Nodes.declared.cont.Cont.{Cont}
+use Rattle.table.specs.Nodes.declared.entry.Entry.{Entry}
+use Rattle.table.specs.Nodes.declared.value_node.ValueNode.{ValueNode}
+use Rattle.table.specs.Nodes.declared.value_node.ValueNode.TheVariants as values
+use Rattle.table.specs.Nodes.declared.observation_node.ObservationNode.{ObservationNode}
+use Rattle.table.specs.Nodes.declared.observation_node.ObservationNode.TheVariants as observations
+use Rattle.table.specs.Nodes.declared.case_node.CaseNode.{CaseNode}
+use Rattle.table.specs.Nodes.declared.case_node.CaseNode.TheVariants as cases
+use Rattle.table.specs.Nodes.declared.cont_node.ContNode.{ContNode}
+use Rattle.table.specs.Nodes.declared.cont_node.ContNode.TheVariants as conts
 use Rattle.table.specs.Flat.{Flat}
 use Rattle.json_write_contracts.specs.WrittenNames.{party_json, payee_json, token_json, choice_id_json}
 use Rattle.json_write_contracts.specs.WrittenContract.{bound_json}

@@ -1,15 +1,15 @@
 -- Worked lines: of the table of Close, and of tables with nodes of each list.
 use Rattle.std.specs.Prelude.{◌≡◌, ℕ, pos, [], ◌∷◌, codes}
-use Rattle.names.specs.declared.party.Party.{Party}
-use Rattle.names.specs.declared.party.Party.TheVariants as parties
-use Rattle.names.specs.declared.payee.Payee.TheVariants as payees
-use Rattle.names.specs.Equal.{ada}
-use Rattle.nodes.specs.declared.cont.Cont.{Cont}
-use Rattle.nodes.specs.declared.entry.Entry.{Entry}
-use Rattle.nodes.specs.declared.value_node.ValueNode.TheVariants as values
-use Rattle.nodes.specs.declared.observation_node.ObservationNode.TheVariants as observations
-use Rattle.nodes.specs.declared.case_node.CaseNode.TheVariants as cases
-use Rattle.nodes.specs.declared.cont_node.ContNode.TheVariants as conts
+use Rattle.table.specs.Names.declared.party.Party.{Party}
+use Rattle.table.specs.Names.declared.party.Party.TheVariants as parties
+use Rattle.table.specs.Names.declared.payee.Payee.TheVariants as payees
+use Rattle.table.specs.Names.Equal.{ada}
+use Rattle.table.specs.Nodes.declared.cont.Cont.{Cont}
+use Rattle.table.specs.Nodes.declared.entry.Entry.{Entry}
+use Rattle.table.specs.Nodes.declared.value_node.ValueNode.TheVariants as values
+use Rattle.table.specs.Nodes.declared.observation_node.ObservationNode.TheVariants as observations
+use Rattle.table.specs.Nodes.declared.case_node.CaseNode.TheVariants as cases
+use Rattle.table.specs.Nodes.declared.cont_node.ContNode.TheVariants as conts
 use Rattle.table.specs.Flat.{Flat}
 use Rattle.table_lines.specs.TableLines.{table_lines}
 

@@ -4,11 +4,11 @@ ghost use Rattle.serde_json.specs.Written.{compact_text};
 ghost use Rattle.table_lines.specs.TableLines.{line_end, v, value_words, observation_words, case_words, cont_words};
 
 use crate::lists::in_brackets;
-use collections::Memory;
 use json_write_contracts::{Term, term_text};
-use nodes::{CaseNode, ContNode, ObservationNode, ValueNode};
 use std::alloc::Global;
 use std::fmt::Write;
+use table::collections::Memory;
+use table::{CaseNode, ContNode, ObservationNode, ValueNode};
 
 // A node that is printed.
 pub(crate) trait Line {

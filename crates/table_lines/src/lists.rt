@@ -2,9 +2,9 @@
 ghost use Rattle.std.specs.Prelude.{◌≡◌, ℕ, List, map, IfOk, string_bytes};
 ghost use Rattle.table_lines.specs.TableLines.{bound, c, in_brackets};
 
-use collections::Memory;
-use names::Bound;
 use std::alloc::Global;
+use table::collections::Memory;
+use table::names::Bound;
 
 // An item of a list.
 pub(crate) trait Item {

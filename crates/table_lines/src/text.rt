@@ -3,11 +3,10 @@ ghost use Rattle.std.specs.Prelude.{◌≡◌, ◌++◌, IfOk, OnOk, decimal, st
 ghost use Rattle.table_lines.specs.TableLines.{lines, table_lines};
 
 use crate::lines::Line;
-use collections::Memory;
-use nodes::{Cont, Entry};
 use std::alloc::Global;
 use std::fmt::Write;
-use table::Table;
+use table::collections::Memory;
+use table::{Cont, Entry, Table};
 
 /// The text of a table and the continuation at its root: a line for each node, all values first, then the observations, the
 /// cases and the continuations, each list counted from 0, and last the line `root kN`. Each line ends in a line feed.

@@ -12,12 +12,12 @@ ghost use Rattle.told_parts.specs.Told.{seen};
 use crate::part::Told;
 use crate::pieces::text_shown;
 use crate::words::{form_text, sort_hint};
-use collections::Memory;
 use json::Token;
 use json_forms::{
     Form, Key, Numbers, ScenarioSort, Sort, key_word, lacking_key, meant_form, nearest_key,
 };
 use json_read_names::JsonFault;
+use names::collections::Memory;
 use std::alloc::Global;
 
 // How many keys an object may have for which a form is sought.

@@ -11,11 +11,11 @@ use crate::pieces::{
     beside, path_text, put_bytes, put_key, put_keys, put_more_keys, text_shown, token_text,
 };
 use crate::words::{bare_sort_text, kinds_text, sort_text};
-use collections::Memory;
 use json::Token;
 use json_forms::{Form, ScenarioSort, Sort, forms_of};
 use json_read_names::JsonFault;
 use json_stops::Step;
+use names::collections::Memory;
 use std::alloc::Global;
 use text_spots::{Spot, put_path_shown};
 

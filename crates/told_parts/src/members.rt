@@ -12,12 +12,12 @@ use crate::hints::{hint_text, near_key};
 use crate::part::Told;
 use crate::pieces::{put_bytes, token_text};
 use crate::words::sort_text;
-use collections::Memory;
 use json::{Token, Writer};
 use json_forms::{ScenarioSort, Sort, key_word};
 use json_members::{Count, Words, put_first, put_next, put_next_text};
 use json_stops::Step;
 use json_write_contracts::{Term, word};
+use names::collections::Memory;
 use std::alloc::Global;
 use text_spots::Spot;
 

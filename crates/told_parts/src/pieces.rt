@@ -4,11 +4,11 @@ ghost use Rattle.json.specs.Reads.{token_of};
 ghost use Rattle.told_parts.specs.Lines as spec;
 ghost use Rattle.told_parts.specs.Lines.{keys_text, more_keys_text, next_key_text, others_text, path_text, step_text, text_shown, token_text};
 
-use collections::Memory;
 use json::Token;
 use json_forms::key_word;
 use json_stops::Step;
 use json_write_contracts::term_text;
+use names::collections::Memory;
 use std::alloc::Global;
 
 /// Puts bytes behind a text.

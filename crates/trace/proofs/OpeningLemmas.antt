@@ -4,7 +4,7 @@ use Rattle.std.specs.Prelude.{◌↔◌, IsOk, IsTrue}
 use Rattle.contract.specs.declared.fault.SemFault.{SemFault}
 use Rattle.contract.specs.declared.fault.SemFault.TheVariants.{InvalidInterval, IntervalInPast, Useless, Memory}
 use Rattle.contract.specs.declared.interval.Interval.{Interval}
-use Rattle.states.specs.States.{StateMaps}
+use Rattle.contract.specs.States.States.{StateMaps}
 use Rattle.contract.specs.Tree.{ContractTree}
 use Rattle.semantics.specs.Walk.{Standing, Walk, ended, answer_of}
 use Rattle.semantics.specs.Transaction.{trimmed, begun}

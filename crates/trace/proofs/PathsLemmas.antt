@@ -7,8 +7,8 @@ use Rattle.contract.specs.declared.fault.SemFault.{SemFault}
 use Rattle.contract.specs.declared.fault.SemFault.TheVariants.{Useless, Leaves128}
 use Rattle.contract.specs.declared.transaction.Transaction.{Transaction}
 use Rattle.contract.specs.Tree.{ContractTree, CaseTrees, close, pay, if_obs, when, let_be, assert, no_cases, case_then}
-use Rattle.evaluation.specs.Numbers.{all_fit}
-use Rattle.evaluation.specs.Path.{case_list, part, along}
+use Rattle.semantics.specs.Evaluation.Numbers.{all_fit}
+use Rattle.semantics.specs.Evaluation.Path.{case_list, part, along}
 use Rattle.semantics.specs.Walk.{Turn, refund, next, then_branch, else_branch, timed_out, in_case, Standing, standing, Walk, answer_of}
 use Rattle.semantics.specs.Transaction.{begun}
 use Rattle.semantics.specs.Computed.{computed}

@@ -2,8 +2,8 @@
 use Rattle.std.proofs.Common.{◌≡◌, ℤ, pos, None, refl, ap}
 use Rattle.std.specs.Option.{unwrap_or}
 use Rattle.std.specs.FinMap.{get, empty, get-empty}
-use Rattle.names.specs.Equal.{ada}
-use Rattle.names.specs.Orders.{account_cmp, bytes_cmp}
+use Rattle.contract.specs.Names.Equal.{ada}
+use Rattle.contract.specs.Names.Orders.{account_cmp, bytes_cmp}
 use Rattle.semantics.specs.Reduction.{account_of, balance}
 use Rattle.semantics.specs.Rows.{nothing, party_a, name_x}
 use Rattle.semantics.specs.Computed.{applied, one_input, from_start, computed}

@@ -1,7 +1,7 @@
 -- Worked traces, computed on the definitions.
 use Rattle.std.specs.Prelude.{◌≡◌, pos, [], ◌∷◌, Ok, Err}
-use Rattle.names.specs.declared.payee.Payee.TheVariants.{Party as ToParty}
-use Rattle.names.specs.Equal.{ada}
+use Rattle.contract.specs.Names.declared.payee.Payee.TheVariants.{Party as ToParty}
+use Rattle.contract.specs.Names.Equal.{ada}
 use Rattle.contract.specs.declared.fault.SemFault.TheVariants.{NoMatch}
 use Rattle.contract.specs.declared.input.Input.TheVariants.{Notify}
 use Rattle.contract.specs.declared.transaction.Transaction.{Transaction}

@@ -9,8 +9,7 @@ ghost use Rattle.trace.specs.Traces.{left_by};
 use crate::refused::Refused;
 use crate::steps::compute;
 use analysis_spec::PathStep;
-use collections::{Items, TryClone};
-use contract::{Contract, SemFault, State, Transaction};
+use contract::{Contract, Items, SemFault, State, Transaction, TryClone};
 use semantics::Log;
 use std::alloc::Global;
 

@@ -1,6 +1,6 @@
 //! Where a contract stands when the inputs of a transaction come, and how it came there.
 ghost use Rattle.std.specs.Prelude.{◌≡◌, ◌↔◌, [], IfOk, IsOk, IsTrue};
-ghost use Rattle.collections.specs.Answers.{AsideBy};
+ghost use Rattle.contract.specs.Collections.Answers.{AsideBy};
 ghost use Rattle.contract.specs.Tree.{contract_tree};
 ghost use Rattle.semantics.specs.Walk.{standing, answer_of};
 ghost use Rattle.semantics.specs.Transaction.{trimmed, begun};
@@ -13,8 +13,7 @@ use crate::steps::is_quiet;
 use crate::trail::Trail;
 use crate::warned::Warned;
 use analysis_spec::PathStep;
-use collections::{Items, TryClone};
-use contract::{Contract, Interval, Outcome, SemFault, State};
+use contract::{Contract, Interval, Items, Outcome, SemFault, State, TryClone};
 use semantics::fix;
 use std::alloc::Global;
 

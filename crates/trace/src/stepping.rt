@@ -2,14 +2,14 @@
 ghost use Rattle.std.specs.Prelude.{◌≡◌, Some, refl};
 ghost use Rattle.contract.specs.Tree.{value_tree, observation_tree, contract_tree};
 ghost use Rattle.contract.specs.TreeInverse.{contract_of};
-ghost use Rattle.evaluation.specs.Path.{part, along};
+ghost use Rattle.semantics.specs.Evaluation.Path.{part, along};
 ghost use Rattle.semantics.specs.PlainLaws.{same_tree, one_place, one_turn_more, has_contract};
 ghost use Rattle.trace.specs.SteppingSupport.{last_step};
 
 use analysis_spec::PathStep;
 use contract::{Contract, Interval, Observation, SemFault, State, Value};
-use evaluation::{Form, Parts, Waiting};
 use semantics::Plain;
+use semantics::evaluation::{Form, Parts, Waiting};
 
 /// A contract, and the step by which it was entered last, if it was.
 #[derive(Clone, Copy)]

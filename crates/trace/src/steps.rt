@@ -1,6 +1,6 @@
 //! The steps of a transaction, and where in the contract each leads.
 ghost use Rattle.std.specs.Prelude.{◌≡◌, ◌++◌, OnOk, IfOk, MatchOption, option_map, option_to_list};
-ghost use Rattle.collections.specs.Answers.{AsideBy};
+ghost use Rattle.contract.specs.Collections.Answers.{AsideBy};
 ghost use Rattle.contract.specs.Tree.{contract_tree};
 ghost use Rattle.semantics.specs.Walk.{standing};
 ghost use Rattle.semantics.specs.Computed.{settled, applied, one_input, all_inputs, computed};
@@ -10,8 +10,7 @@ ghost use Rattle.trace.specs.SteppingSupport.{Goes};
 
 use crate::stepping::{Stepped, Stepping};
 use analysis_spec::PathStep;
-use collections::{Items, Memory};
-use contract::{Contract, Input, Interval, SemFault, State};
+use contract::{Contract, Input, Interval, Items, Memory, SemFault, State};
 use semantics::{Log, apply, fix, reduce};
 
 /// One transaction (Marlowe specification version 3, "Compute transaction"): what it leaves of the contract, and the steps

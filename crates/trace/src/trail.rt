@@ -1,6 +1,6 @@
 //! Reductions, and what is told of them.
 ghost use Rattle.std.specs.Prelude.{◌≡◌, ◌≢◌, ◌++◌, [], OnOk, IfOk, MatchOption, MatchResult, option_map};
-ghost use Rattle.collections.specs.Answers.{AsideBy};
+ghost use Rattle.contract.specs.Collections.Answers.{AsideBy};
 ghost use Rattle.contract.specs.Tree.{contract_tree};
 ghost use Rattle.semantics.specs.Computed.{settled};
 ghost use Rattle.semantics.specs.Reduced.{step, reply, state_after, warnings_of, payments_of, turn_of};
@@ -12,8 +12,7 @@ use crate::stepping::{Stepped, Stepping};
 use crate::steps::push_step;
 use crate::warned::Warned;
 use analysis_spec::PathStep;
-use collections::{Items, Memory, TryClone};
-use contract::{Contract, Interval, SemFault, State, Warning};
+use contract::{Contract, Interval, Items, Memory, SemFault, State, TryClone, Warning};
 use semantics::{Log, reduce};
 use std::alloc::Global;
 

@@ -1,7 +1,6 @@
 //! Warnings and where they come from.
 use analysis_spec::PathStep;
-use collections::Items;
-use contract::Warning;
+use contract::{Items, Warning};
 
 /// A warning, and the place of the contract that it comes from.
 #[derive(Drop)]

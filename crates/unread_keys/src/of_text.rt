@@ -5,9 +5,9 @@ ghost use Rattle.unread_keys.specs.Unread.{document_within, note_of, notes_in};
 
 use crate::unread::Unread;
 use crate::walk::first_unread;
-use collections::Memory;
 use json::{Error, Reader, Scratch, Value};
 use json_forms::Sort;
+use names::collections::Memory;
 use std::alloc::{AllocError, Global};
 
 /// The members that aren't read of a text, which is read as one of a sort, where lists and objects nest no deeper than `depth`: the

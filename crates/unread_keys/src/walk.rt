@@ -7,9 +7,9 @@ ghost use Rattle.unread_keys.specs.UnreadSupport.{Gains};
 
 use crate::sorts::{form_of, item_sort, member_field};
 use crate::unread::{Step, Unread, Why};
-use collections::Memory;
 use json::Value;
 use json_forms::{Form, Key, Sort};
+use names::collections::Memory;
 use std::alloc::Global;
 
 // What was found so far, and the way to where the walk is.

@@ -3,22 +3,22 @@ use Rattle.std.proofs.Common.{◌≡◌, ℕ, List, sym, ap, ◌∙◌, subst, O
 use Rattle.contract.specs.Tree.{contract_tree}
 use Rattle.contract.specs.declared.input.Input.{Input}
 use Rattle.contract.specs.declared.interval.Interval.{Interval}
-use Rattle.eutxo_types.specs.declared.fault.TxFault.{TxFault}
-use Rattle.eutxo_types.specs.declared.output_ref.OutputRef.{OutputRef}
-use Rattle.eutxo_types.specs.declared.output_ref.OutputRef.TheVariants.{Made}
-use Rattle.eutxo_types.specs.declared.tx.Tx.{Tx}
-use Rattle.eutxo_types.specs.Ids.{id_of}
-use Rattle.roles.specs.declared.published.Published.{Published}
-use Rattle.roles.specs.Publications.{published_of}
-use Rattle.ledger.specs.declared.call.Call.TheVariants as on
-use Rattle.ledger.specs.declared.call.Reply.{Reply}
-use Rattle.ledger.specs.declared.call.Reply.TheVariants as answer
-use Rattle.ledger.specs.declared.look.Unspent.{Unspent}
-use Rattle.ledger_spec.specs.Replay.{Course, world}
-use Rattle.ledger_spec.specs.Calls.{fault_on, submit_reply, reply_to}
-use Rattle.builder_spec.specs.Built.{build_answer}
-use Rattle.builder_spec.specs.Requests.{StartRequest, start_request}
-use Rattle.builder_spec.specs.Starts.{hinders_start, layout_start}
+use Rattle.chain.specs.LedgerSpec.EutxoTypes.declared.fault.TxFault.{TxFault}
+use Rattle.chain.specs.LedgerSpec.EutxoTypes.declared.output_ref.OutputRef.{OutputRef}
+use Rattle.chain.specs.LedgerSpec.EutxoTypes.declared.output_ref.OutputRef.TheVariants.{Made}
+use Rattle.chain.specs.LedgerSpec.EutxoTypes.declared.tx.Tx.{Tx}
+use Rattle.chain.specs.LedgerSpec.EutxoTypes.Ids.{id_of}
+use Rattle.chain.specs.LedgerSpec.Roles.declared.published.Published.{Published}
+use Rattle.chain.specs.LedgerSpec.Roles.Publications.{published_of}
+use Rattle.chain.specs.LedgerSpec.Ledger.declared.call.Call.TheVariants as on
+use Rattle.chain.specs.LedgerSpec.Ledger.declared.call.Reply.{Reply}
+use Rattle.chain.specs.LedgerSpec.Ledger.declared.call.Reply.TheVariants as answer
+use Rattle.chain.specs.LedgerSpec.Ledger.declared.look.Unspent.{Unspent}
+use Rattle.chain.specs.LedgerSpec.Replay.{Course, world}
+use Rattle.chain.specs.LedgerSpec.Calls.{fault_on, submit_reply, reply_to}
+use Rattle.chain.specs.LedgerSpec.BuilderSpec.Built.{build_answer}
+use Rattle.chain.specs.LedgerSpec.BuilderSpec.Requests.{StartRequest, start_request}
+use Rattle.chain.specs.LedgerSpec.BuilderSpec.Starts.{hinders_start, layout_start}
 use Rattle.uses.specs.Uses.{called, at_tick, step_asked, IsStepped, after_step, Deal, after_publish, start_asked, after_start, IsBegun, IsEnded}
 use Rattle.uses.proofs.SteppedLemmas.{built}
 

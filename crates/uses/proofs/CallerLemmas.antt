@@ -2,23 +2,23 @@
 use Rattle.std.proofs.Common.{◌≡◌, inr, OnErr, ℕ, List, [], sym, ap, ◌∙◌, Some, Result, Ok, Err}
 use Rattle.contract.specs.declared.input.Input.{Input}
 use Rattle.contract.specs.declared.interval.Interval.{Interval}
-use Rattle.eutxo_types.specs.declared.output_ref.OutputRef.{OutputRef}
-use Rattle.eutxo_types.specs.declared.tx.Tx.{Tx}
-use Rattle.eutxo_types.specs.Fitting.{TxFits}
-use Rattle.ledger.specs.declared.ask.Ask.{Ask}
-use Rattle.ledger.specs.declared.call.Call.TheVariants as on
-use Rattle.ledger.specs.declared.call.Reply.{Reply}
-use Rattle.ledger.specs.declared.look.Look.{Look}
-use Rattle.ledger.specs.declared.look.Unspent.{Unspent}
-use Rattle.ledger_spec.specs.Replay.{Course, world}
-use Rattle.ledger_spec.specs.Views.{look}
-use Rattle.ledger_spec.specs.Calls.{reply_to}
-use Rattle.ledger_spec.specs.Headline.{BuildsAreAccepted}
-use Rattle.builder_spec.specs.declared.fault.BuildFault.{BuildFault}
-use Rattle.builder_spec.specs.Requests.{StepRequest, ClaimRequest, request, claim_request}
-use Rattle.builder_spec.specs.Built.{build_answer}
-use Rattle.builder_spec.specs.Parts.{hinders_step, layout_step}
-use Rattle.builder_spec.specs.Claims.{hinders_claim, layout_claim}
+use Rattle.chain.specs.LedgerSpec.EutxoTypes.declared.output_ref.OutputRef.{OutputRef}
+use Rattle.chain.specs.LedgerSpec.EutxoTypes.declared.tx.Tx.{Tx}
+use Rattle.chain.specs.LedgerSpec.EutxoTypes.Fitting.{TxFits}
+use Rattle.chain.specs.LedgerSpec.Ledger.declared.ask.Ask.{Ask}
+use Rattle.chain.specs.LedgerSpec.Ledger.declared.call.Call.TheVariants as on
+use Rattle.chain.specs.LedgerSpec.Ledger.declared.call.Reply.{Reply}
+use Rattle.chain.specs.LedgerSpec.Ledger.declared.look.Look.{Look}
+use Rattle.chain.specs.LedgerSpec.Ledger.declared.look.Unspent.{Unspent}
+use Rattle.chain.specs.LedgerSpec.Replay.{Course, world}
+use Rattle.chain.specs.LedgerSpec.Views.{look}
+use Rattle.chain.specs.LedgerSpec.Calls.{reply_to}
+use Rattle.chain.specs.LedgerSpec.Headline.{BuildsAreAccepted}
+use Rattle.chain.specs.LedgerSpec.BuilderSpec.declared.fault.BuildFault.{BuildFault}
+use Rattle.chain.specs.LedgerSpec.BuilderSpec.Requests.{StepRequest, ClaimRequest, request, claim_request}
+use Rattle.chain.specs.LedgerSpec.BuilderSpec.Built.{build_answer}
+use Rattle.chain.specs.LedgerSpec.BuilderSpec.Parts.{hinders_step, layout_step}
+use Rattle.chain.specs.LedgerSpec.BuilderSpec.Claims.{hinders_claim, layout_claim}
 use Rattle.uses.specs.Uses.{called, thread_ask, thread_look, at_tick, step_asked, IsStepped, after_step, OnlyLooked, claim_asked, IsClaimed, after_claim}
 use Rattle.uses.proofs.SteppedLemmas.{stepped, after_stepped, claimed, after_claimed, not_built}
 

@@ -5,31 +5,31 @@ use Rattle.std.specs.Cmp.{tied_itself}
 use Rattle.std.specs.Ordering.{is_eq}
 use Rattle.std.specs.FinMap as map
 use Rattle.std.specs.FinMap.{get-insert}
-use Rattle.names.specs.Orders.{bytes_cmp}
-use Rattle.names.specs.Totals.{bytes_total}
-use Rattle.names.specs.declared.party.Party.TheVariants.{Address}
-use Rattle.semantics.proofs.Integers.{true_le}
-use Rattle.eutxo_types.specs.declared.fault.TxFault.{TxFault}
-use Rattle.eutxo_types.specs.declared.lock.Lock.{Lock}
-use Rattle.eutxo_types.specs.declared.lock.Lock.TheVariants.{Key, Payout, Contract}
-use Rattle.eutxo_types.specs.declared.output.Output.{Output}
-use Rattle.eutxo_types.specs.declared.spend.Spend.{Spend}
-use Rattle.eutxo_types.specs.declared.tx.Tx.{Tx}
-use Rattle.eutxo_types.specs.declared.verdict.Verdict.{Verdict}
-use Rattle.eutxo_types.specs.declared.verdict.Verdict.TheVariants.{Accepted}
-use Rattle.eutxo_types.specs.Parts.{script_in, ContractLock, contract_in}
-use Rattle.eutxo.specs.declared.step_fault.StepFault.TheVariants.{NotAuthorised}
-use Rattle.eutxo.specs.declared.validator.StepAnswer.TheVariants.{Takes}
-use Rattle.eutxo.specs.Blocks.{answer_by, step_asked, fault_in, step_fault, step_fault_unless}
-use Rattle.eutxo.specs.Faults.{or_else}
-use Rattle.eutxo.specs.Found.{script_at, whole}
-use Rattle.eutxo.specs.Local.{tx_fault, spent_rules, whole_fault, local, verdict_of}
-use Rattle.eutxo.specs.Rules.{has_signed, digests_in, wrong_datum, steps_of}
-use Rattle.ledger_laws.proofs.PlainLaws.{and_true}
-use Rattle.ledger_laws.proofs.JudgedLemmas.{each_none}
-use Rattle.ledger_laws.proofs.PairedLemmas.{step_with, step_read}
-use Rattle.ledger_laws.proofs.FindingLemmas.{taken_at}
-use Rattle.ledger_laws.proofs.DatumLaws.{told}
+use Rattle.contract.specs.Names.Orders.{bytes_cmp}
+use Rattle.contract.specs.Names.Totals.{bytes_total}
+use Rattle.contract.specs.Names.declared.party.Party.TheVariants.{Address}
+use Rattle.ledger_spec.proofs.FromSemantics.Integers.{true_le}
+use Rattle.chain.specs.LedgerSpec.EutxoTypes.declared.fault.TxFault.{TxFault}
+use Rattle.chain.specs.LedgerSpec.EutxoTypes.declared.lock.Lock.{Lock}
+use Rattle.chain.specs.LedgerSpec.EutxoTypes.declared.lock.Lock.TheVariants.{Key, Payout, Contract}
+use Rattle.chain.specs.LedgerSpec.EutxoTypes.declared.output.Output.{Output}
+use Rattle.chain.specs.LedgerSpec.EutxoTypes.declared.spend.Spend.{Spend}
+use Rattle.chain.specs.LedgerSpec.EutxoTypes.declared.tx.Tx.{Tx}
+use Rattle.chain.specs.LedgerSpec.EutxoTypes.declared.verdict.Verdict.{Verdict}
+use Rattle.chain.specs.LedgerSpec.EutxoTypes.declared.verdict.Verdict.TheVariants.{Accepted}
+use Rattle.chain.specs.LedgerSpec.EutxoTypes.Parts.{script_in, ContractLock, contract_in}
+use Rattle.chain.specs.LedgerSpec.Eutxo.declared.step_fault.StepFault.TheVariants.{NotAuthorised}
+use Rattle.chain.specs.LedgerSpec.Eutxo.declared.validator.StepAnswer.TheVariants.{Takes}
+use Rattle.chain.specs.LedgerSpec.Eutxo.Blocks.{answer_by, step_asked, fault_in, step_fault, step_fault_unless}
+use Rattle.chain.specs.LedgerSpec.Eutxo.Faults.{or_else}
+use Rattle.chain.specs.LedgerSpec.Eutxo.Found.{script_at, whole}
+use Rattle.chain.specs.LedgerSpec.Eutxo.Local.{tx_fault, spent_rules, whole_fault, local, verdict_of}
+use Rattle.chain.specs.LedgerSpec.Eutxo.Rules.{has_signed, digests_in, wrong_datum, steps_of}
+use Rattle.ledger_spec.proofs.FromLedgerLaws.PlainLaws.{and_true}
+use Rattle.ledger_spec.proofs.FromLedgerLaws.JudgedLemmas.{each_none}
+use Rattle.ledger_spec.proofs.FromLedgerLaws.PairedLemmas.{step_with, step_read}
+use Rattle.ledger_spec.proofs.FromLedgerLaws.FindingLemmas.{taken_at}
+use Rattle.ledger_spec.proofs.FromLedgerLaws.DatumLaws.{told}
 use Rattle.uses.specs.declared.other_script.TimeLock.{TimeLock}
 use Rattle.uses.specs.Resolutions.{resolution_of}
 use Rattle.uses.specs.TimeLocks.{may_open, time_locks, KeepsTheLock}

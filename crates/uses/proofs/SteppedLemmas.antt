@@ -6,40 +6,40 @@ use Rattle.std.specs.Cmp.Lexicographic.{bytes_decides}
 use Rattle.std.proofs.lemmas.List.Elements.{All-nil, All-cons}
 use Rattle.contract.specs.declared.input.Input.{Input}
 use Rattle.contract.specs.declared.interval.Interval.{Interval}
-use Rattle.machine.specs.declared.datum.Datum.{Datum}
-use Rattle.eutxo_types.specs.declared.output.Output.{Output}
-use Rattle.eutxo_types.specs.declared.output_ref.OutputRef.{OutputRef}
-use Rattle.eutxo_types.specs.declared.tx.Tx.{Tx}
-use Rattle.eutxo_types.specs.Fitting.{TxFits}
-use Rattle.eutxo_types.specs.Parts.{same_bytes, script_in, ContractLock, contract_in}
-use Rattle.eutxo.specs.Judgement.{judge}
-use Rattle.roles.specs.declared.published.Published.{Published}
-use Rattle.roles.specs.Steps.{marlowe}
-use Rattle.ledger_laws.specs.Past.{Past, unspent_at}
-use Rattle.ledger_laws.specs.Sound.{moment}
-use Rattle.ledger.specs.declared.ask.Ask.{Ask}
-use Rattle.ledger.specs.declared.call.Call.TheVariants as on
-use Rattle.ledger.specs.declared.call.Entry.{Entry}
-use Rattle.ledger.specs.declared.call.Reply.{Reply}
-use Rattle.ledger.specs.declared.look.ThreadOutput.{ThreadOutput}
-use Rattle.ledger.specs.declared.look.Unspent.{Unspent}
-use Rattle.ledger_spec.specs.Open.{IsAlone}
-use Rattle.ledger_spec.specs.Replay.{Replay, Course, World, replay, count_of, published_after, published_from, published, published_at, world, past_of}
-use Rattle.ledger_spec.specs.Legal.{entry_of}
-use Rattle.ledger_spec.specs.Views.{thread_output, made_datum, object_under, thread_output_in, thread_output_at, end_of, thread_shown}
-use Rattle.ledger_spec.specs.Calls.{submit_reply, reply_to}
-use Rattle.ledger_spec.specs.AcceptedAt.{IsOpenAfter}
-use Rattle.ledger_spec.specs.Headline.{BuildsAreAccepted}
-use Rattle.ledger_spec.proofs.StepLaws.{step_accepted}
-use Rattle.ledger_spec.proofs.ReplayLaws.{replay_after}
-use Rattle.builder_spec.specs.declared.fault.BuildFault.{BuildFault}
-use Rattle.builder_spec.specs.Requests.{StepRequest, ClaimRequest}
-use Rattle.builder_spec.specs.Built.{build_answer}
-use Rattle.builder_spec.specs.Steps.{Thread, is_current, thread_in, thread_of, look_thread, own_output, step_spent}
-use Rattle.builder_spec.specs.Parts.{hinders_step, layout_step}
-use Rattle.builder_spec.proofs.OnePartLaws.{hinders_on, layout_on, hinders_step_on, layout_step_on}
-use Rattle.builder_spec.specs.Closings.{Closes}
-use Rattle.builder_spec.specs.Claims.{hinders_claim, layout_claim}
+use Rattle.chain.specs.LedgerSpec.Machine.declared.datum.Datum.{Datum}
+use Rattle.chain.specs.LedgerSpec.EutxoTypes.declared.output.Output.{Output}
+use Rattle.chain.specs.LedgerSpec.EutxoTypes.declared.output_ref.OutputRef.{OutputRef}
+use Rattle.chain.specs.LedgerSpec.EutxoTypes.declared.tx.Tx.{Tx}
+use Rattle.chain.specs.LedgerSpec.EutxoTypes.Fitting.{TxFits}
+use Rattle.chain.specs.LedgerSpec.EutxoTypes.Parts.{same_bytes, script_in, ContractLock, contract_in}
+use Rattle.chain.specs.LedgerSpec.Eutxo.Judgement.{judge}
+use Rattle.chain.specs.LedgerSpec.Roles.declared.published.Published.{Published}
+use Rattle.chain.specs.LedgerSpec.Roles.Steps.{marlowe}
+use Rattle.chain.specs.LedgerSpec.LedgerLaws.Past.{Past, unspent_at}
+use Rattle.chain.specs.LedgerSpec.LedgerLaws.Sound.{moment}
+use Rattle.chain.specs.LedgerSpec.Ledger.declared.ask.Ask.{Ask}
+use Rattle.chain.specs.LedgerSpec.Ledger.declared.call.Call.TheVariants as on
+use Rattle.chain.specs.LedgerSpec.Ledger.declared.call.Entry.{Entry}
+use Rattle.chain.specs.LedgerSpec.Ledger.declared.call.Reply.{Reply}
+use Rattle.chain.specs.LedgerSpec.Ledger.declared.look.ThreadOutput.{ThreadOutput}
+use Rattle.chain.specs.LedgerSpec.Ledger.declared.look.Unspent.{Unspent}
+use Rattle.chain.specs.LedgerSpec.Open.{IsAlone}
+use Rattle.chain.specs.LedgerSpec.Replay.{Replay, Course, World, replay, count_of, published_after, published_from, published, published_at, world, past_of}
+use Rattle.chain.specs.LedgerSpec.Legal.{entry_of}
+use Rattle.chain.specs.LedgerSpec.Views.{thread_output, made_datum, object_under, thread_output_in, thread_output_at, end_of, thread_shown}
+use Rattle.chain.specs.LedgerSpec.Calls.{submit_reply, reply_to}
+use Rattle.chain.specs.LedgerSpec.AcceptedAt.{IsOpenAfter}
+use Rattle.chain.specs.LedgerSpec.Headline.{BuildsAreAccepted}
+use Rattle.chain.proofs.FromLedgerSpec.StepLaws.{step_accepted}
+use Rattle.chain.proofs.FromLedgerSpec.ReplayLaws.{replay_after}
+use Rattle.chain.specs.LedgerSpec.BuilderSpec.declared.fault.BuildFault.{BuildFault}
+use Rattle.chain.specs.LedgerSpec.BuilderSpec.Requests.{StepRequest, ClaimRequest}
+use Rattle.chain.specs.LedgerSpec.BuilderSpec.Built.{build_answer}
+use Rattle.chain.specs.LedgerSpec.BuilderSpec.Steps.{Thread, is_current, thread_in, thread_of, look_thread, own_output, step_spent}
+use Rattle.chain.specs.LedgerSpec.BuilderSpec.Parts.{hinders_step, layout_step}
+use Rattle.ledger_spec.proofs.FromBuilderSpec.OnePartLaws.{hinders_on, layout_on, hinders_step_on, layout_step_on}
+use Rattle.chain.specs.LedgerSpec.BuilderSpec.Closings.{Closes}
+use Rattle.chain.specs.LedgerSpec.BuilderSpec.Claims.{hinders_claim, layout_claim}
 use Rattle.uses.specs.Uses.{called, thread_ask, thread_look, at_tick, step_asked, IsStepped, after_step, closing_asked, IsThreadClosed, NeedNotClose, claim_asked, IsClaimed, after_claim}
 
 -- ---- a look changes nothing that a Submit reads

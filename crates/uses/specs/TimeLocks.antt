@@ -1,18 +1,18 @@
 -- A script that isn't Marlowe's: an output is locked until a time, and then its owner's.
 use Rattle.std.specs.Prelude.{◌≡◌, ℕ, int_le, ◌≤ℤ◌, Bool, true, false, ◌&&◌, if◌then◌else◌, List, slice_get, Option, Some, None}
-use Rattle.names.specs.declared.party.Party.TheVariants.{Address}
-use Rattle.eutxo_types.specs.declared.output.Output.{Output}
-use Rattle.eutxo_types.specs.declared.spend.Spend.{Spend}
-use Rattle.eutxo_types.specs.declared.tx.Tx.{Tx}
-use Rattle.eutxo_types.specs.declared.verdict.Verdict.{Verdict}
-use Rattle.eutxo_types.specs.declared.verdict.Verdict.TheVariants.{Accepted}
-use Rattle.eutxo_types.specs.Parts.{script_in}
-use Rattle.eutxo.specs.declared.step_fault.StepFault.TheVariants.{NotAuthorised}
-use Rattle.eutxo.specs.declared.validator.StepAnswer.{StepAnswer}
-use Rattle.eutxo.specs.declared.validator.StepAnswer.TheVariants.{Takes}
-use Rattle.eutxo.specs.Asked.{Stepping, Judges}
-use Rattle.eutxo.specs.Found.{whole}
-use Rattle.eutxo.specs.Rules.{has_signed}
+use Rattle.contract.specs.Names.declared.party.Party.TheVariants.{Address}
+use Rattle.chain.specs.LedgerSpec.EutxoTypes.declared.output.Output.{Output}
+use Rattle.chain.specs.LedgerSpec.EutxoTypes.declared.spend.Spend.{Spend}
+use Rattle.chain.specs.LedgerSpec.EutxoTypes.declared.tx.Tx.{Tx}
+use Rattle.chain.specs.LedgerSpec.EutxoTypes.declared.verdict.Verdict.{Verdict}
+use Rattle.chain.specs.LedgerSpec.EutxoTypes.declared.verdict.Verdict.TheVariants.{Accepted}
+use Rattle.chain.specs.LedgerSpec.EutxoTypes.Parts.{script_in}
+use Rattle.chain.specs.LedgerSpec.Eutxo.declared.step_fault.StepFault.TheVariants.{NotAuthorised}
+use Rattle.chain.specs.LedgerSpec.Eutxo.declared.validator.StepAnswer.{StepAnswer}
+use Rattle.chain.specs.LedgerSpec.Eutxo.declared.validator.StepAnswer.TheVariants.{Takes}
+use Rattle.chain.specs.LedgerSpec.Eutxo.Asked.{Stepping, Judges}
+use Rattle.chain.specs.LedgerSpec.Eutxo.Found.{whole}
+use Rattle.chain.specs.LedgerSpec.Eutxo.Rules.{has_signed}
 use Rattle.uses.specs.declared.other_script.TimeLock.{TimeLock}
 use Rattle.uses.specs.Resolutions.{resolution_of}
 

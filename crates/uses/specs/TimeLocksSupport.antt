@@ -3,8 +3,8 @@ use Rattle.std.proofs.Common.{◌≡◌, ℕ, ℤ, Bool, true, false, ◌&&◌, 
 use Rattle.std.specs.Cmp.{signed_Decides}
 use Rattle.std.specs.Cmp.Lexicographic.{bytes_decides}
 use Rattle.std.specs.Ordering.{int_eq}
-use Rattle.names.specs.Equal.{same_text}
-use Rattle.eutxo.specs.Asked.{Stepping}
+use Rattle.contract.specs.Names.Equal.{same_text}
+use Rattle.chain.specs.LedgerSpec.Eutxo.Asked.{Stepping}
 use Rattle.uses.specs.declared.other_script.TimeLock.{TimeLock}
 use Rattle.uses.specs.TimeLocks.{lock_answer}
 

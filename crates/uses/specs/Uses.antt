@@ -4,34 +4,34 @@ use Rattle.contract.specs.declared.input.Input.{Input}
 use Rattle.contract.specs.declared.interval.Interval.{Interval}
 use Rattle.contract.specs.declared.tree.Contract.{Contract}
 use Rattle.contract.specs.Tree.{contract_tree}
-use Rattle.states.specs.States.{StateMaps}
-use Rattle.evaluation.specs.Timeouts.{last}
-use Rattle.semantics.specs.Closing.{HasReached}
-use Rattle.eutxo_types.specs.declared.output_ref.OutputRef.{OutputRef}
-use Rattle.eutxo_types.specs.declared.output_ref.OutputRef.TheVariants.{Made}
-use Rattle.eutxo_types.specs.declared.tx.Tx.{Tx}
-use Rattle.eutxo_types.specs.Ids.{id_of}
-use Rattle.roles.specs.Publications.{published_of}
-use Rattle.ledger_laws.specs.Past.{unspent_at}
-use Rattle.ledger.specs.declared.ask.Ask.{Ask}
-use Rattle.ledger.specs.declared.call.Call.{Call}
-use Rattle.ledger.specs.declared.call.Call.TheVariants as on
-use Rattle.ledger.specs.declared.call.Reply.{Reply}
-use Rattle.ledger.specs.declared.call.Reply.TheVariants as answer
-use Rattle.ledger.specs.declared.look.Look.{Look}
-use Rattle.ledger.specs.declared.look.Unspent.{Unspent}
-use Rattle.ledger_spec.specs.Open.{IsAlone}
-use Rattle.ledger_spec.specs.Replay.{Course, world, past_of}
-use Rattle.ledger_spec.specs.Legal.{entry_of, with_entry}
-use Rattle.ledger_spec.specs.Views.{look}
-use Rattle.ledger_spec.specs.Calls.{reply_to}
-use Rattle.builder_spec.specs.declared.fault.BuildFault.{BuildFault}
-use Rattle.builder_spec.specs.Requests.{StepRequest, StartRequest, ClaimRequest, request, start_request, claim_request}
-use Rattle.builder_spec.specs.Steps.{Thread, thread_terms, look_thread}
-use Rattle.builder_spec.specs.Parts.{hinders_step, layout_step}
-use Rattle.builder_spec.specs.Closings.{closing, Closes}
-use Rattle.builder_spec.specs.Starts.{hinders_start, layout_start}
-use Rattle.builder_spec.specs.Claims.{claim_front, hinders_claim, layout_claim}
+use Rattle.contract.specs.States.States.{StateMaps}
+use Rattle.chain.specs.LedgerSpec.Evaluation.Timeouts.{last}
+use Rattle.chain.specs.LedgerSpec.Semantics.Closing.{HasReached}
+use Rattle.chain.specs.LedgerSpec.EutxoTypes.declared.output_ref.OutputRef.{OutputRef}
+use Rattle.chain.specs.LedgerSpec.EutxoTypes.declared.output_ref.OutputRef.TheVariants.{Made}
+use Rattle.chain.specs.LedgerSpec.EutxoTypes.declared.tx.Tx.{Tx}
+use Rattle.chain.specs.LedgerSpec.EutxoTypes.Ids.{id_of}
+use Rattle.chain.specs.LedgerSpec.Roles.Publications.{published_of}
+use Rattle.chain.specs.LedgerSpec.LedgerLaws.Past.{unspent_at}
+use Rattle.chain.specs.LedgerSpec.Ledger.declared.ask.Ask.{Ask}
+use Rattle.chain.specs.LedgerSpec.Ledger.declared.call.Call.{Call}
+use Rattle.chain.specs.LedgerSpec.Ledger.declared.call.Call.TheVariants as on
+use Rattle.chain.specs.LedgerSpec.Ledger.declared.call.Reply.{Reply}
+use Rattle.chain.specs.LedgerSpec.Ledger.declared.call.Reply.TheVariants as answer
+use Rattle.chain.specs.LedgerSpec.Ledger.declared.look.Look.{Look}
+use Rattle.chain.specs.LedgerSpec.Ledger.declared.look.Unspent.{Unspent}
+use Rattle.chain.specs.LedgerSpec.Open.{IsAlone}
+use Rattle.chain.specs.LedgerSpec.Replay.{Course, world, past_of}
+use Rattle.chain.specs.LedgerSpec.Legal.{entry_of, with_entry}
+use Rattle.chain.specs.LedgerSpec.Views.{look}
+use Rattle.chain.specs.LedgerSpec.Calls.{reply_to}
+use Rattle.chain.specs.LedgerSpec.BuilderSpec.declared.fault.BuildFault.{BuildFault}
+use Rattle.chain.specs.LedgerSpec.BuilderSpec.Requests.{StepRequest, StartRequest, ClaimRequest, request, start_request, claim_request}
+use Rattle.chain.specs.LedgerSpec.BuilderSpec.Steps.{Thread, thread_terms, look_thread}
+use Rattle.chain.specs.LedgerSpec.BuilderSpec.Parts.{hinders_step, layout_step}
+use Rattle.chain.specs.LedgerSpec.BuilderSpec.Closings.{closing, Closes}
+use Rattle.chain.specs.LedgerSpec.BuilderSpec.Starts.{hinders_start, layout_start}
+use Rattle.chain.specs.LedgerSpec.BuilderSpec.Claims.{claim_front, hinders_claim, layout_claim}
 
 -- ---- calls
 

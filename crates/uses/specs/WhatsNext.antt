@@ -4,8 +4,8 @@ use Rattle.contract.specs.declared.input.Input.{Input}
 use Rattle.contract.specs.declared.interval.Interval.{Interval}
 use Rattle.contract.specs.declared.transaction.Transaction.{Transaction}
 use Rattle.contract.specs.Tree.{ContractTree}
-use Rattle.evaluation.specs.Path.{waits_for}
-use Rattle.semantics.specs.Walk.{Standing}
+use Rattle.chain.specs.LedgerSpec.Evaluation.Path.{waits_for}
+use Rattle.chain.specs.LedgerSpec.Semantics.Walk.{Standing}
 use Rattle.next_inputs.specs.declared.offer.Offer.{Offer}
 use Rattle.next_inputs.specs.Offers.{offered}
 use Rattle.next_inputs.specs.Opening.{next_case}

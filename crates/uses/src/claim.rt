@@ -1,13 +1,12 @@
 //! A claim of payouts.
 ghost use Rattle.std.specs.Prelude.{◌≡◌, ◌≢◌, Some, IfOk, IfErr, OnOk, OnErr};
-ghost use Rattle.builder_spec.specs.Claims.{hinders_claim};
+ghost use Rattle.chain.specs.LedgerSpec.BuilderSpec.Claims.{hinders_claim};
 ghost use Rattle.uses.specs.Uses.{claim_asked, IsClaimed, after_claim};
 
 use crate::plain_calls::{at_tick, submit};
 use builder::{BuildFault, build_claim};
-use chain::{Chain, Reply};
-use collections::Text;
-use ledger::Unspent;
+use chain::{Chain, Reply, Unspent};
+use contract::Text;
 use std::alloc::Global;
 
 /// Claims payouts at the present tick, by the roles' tokens in what is offered: what the payouts hold goes to the key

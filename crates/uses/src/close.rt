@@ -4,10 +4,8 @@ ghost use Rattle.uses.specs.Uses.{thread_ask, after_step, closing_asked, IsThrea
 
 use crate::step::step_now;
 use builder::BuildFault;
-use chain::{Chain, Reply};
-use collections::Text;
-use contract::Input;
-use eutxo_types::OutputRef;
+use chain::{Chain, OutputRef, Reply};
+use contract::{Input, Text};
 use std::alloc::Global;
 
 /// Closes the thread from a start output at the present tick, as anybody can once its last timeout is reached: no

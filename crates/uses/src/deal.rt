@@ -1,19 +1,15 @@
 //! A contract from its publishing to its end.
 ghost use Rattle.std.specs.Prelude.{◌≡◌, IfOk, OnOk};
-ghost use Rattle.ledger.specs.declared.call.Call.TheVariants as on;
-ghost use Rattle.ledger.specs.declared.call.Reply.TheVariants as answer;
+ghost use Rattle.chain.specs.LedgerSpec.Ledger.declared.call.Call.TheVariants as on;
+ghost use Rattle.chain.specs.LedgerSpec.Ledger.declared.call.Reply.TheVariants as answer;
 ghost use Rattle.uses.specs.Uses.{called, agreed, after_start, IsBegun, IsEnded};
 
 use crate::fault::UseFault;
 use crate::plain_calls::{at_tick, submit};
 use crate::step::step_now;
 use builder::build_start;
-use chain::{Call, Chain, Reply};
-use collections::{Bytes, Memory, Text, TryClone};
-use contract::{Contract, Input, State};
-use eutxo_types::OutputRef;
-use ledger::Unspent;
-use roles::publish;
+use chain::{Call, Chain, OutputRef, Reply, Unspent, publish};
+use contract::{Bytes, Contract, Input, Memory, State, Text, TryClone};
 use std::alloc::Global;
 
 /// What two parties agree on: the contract with the currency of its roles' tokens, and the state that it starts from,

@@ -1,6 +1,6 @@
 //! Why a use goes wrong.
 use builder::BuildFault;
-use roles::CompileFault;
+use chain::CompileFault;
 use std::alloc::AllocError;
 use thiserror::Error;
 

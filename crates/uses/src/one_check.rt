@@ -1,13 +1,11 @@
 //! One transaction, judged without a ledger.
 ghost use Rattle.std.specs.Prelude.{◌≡◌, IfOk};
-ghost use Rattle.eutxo.specs.Local.{local, verdict_of};
-ghost use Rattle.roles.specs.Steps.{marlowe};
+ghost use Rattle.chain.specs.LedgerSpec.Eutxo.Local.{local, verdict_of};
+ghost use Rattle.chain.specs.LedgerSpec.Roles.Steps.{marlowe};
 ghost use Rattle.uses.specs.Resolutions.{resolution_of};
 
-use collections::{Items, Memory, TryClone};
-use eutxo::{Resolved, Scripts, Shared, check};
-use eutxo_types::{Output, Tx, Verdict};
-use roles::Published;
+use chain::{Output, Published, Resolved, Scripts, Shared, Tx, Verdict, check};
+use contract::{Items, Memory, TryClone};
 use std::alloc::Global;
 use std::sync::Arc;
 

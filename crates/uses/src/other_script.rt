@@ -1,16 +1,14 @@
 //! A script that isn't Marlowe's.
 ghost use Rattle.std.specs.Prelude.{◌≡◌, IfOk};
-ghost use Rattle.eutxo.specs.Local.{local, verdict_of};
+ghost use Rattle.chain.specs.LedgerSpec.Eutxo.Local.{local, verdict_of};
 ghost use Rattle.uses.specs.Resolutions.{resolution_of};
 ghost use Rattle.uses.specs.TimeLocks.{time_locks, KeepsTheLock};
 
-use bundle::Bundle;
-use collections::{Bytes, Items, Memory, Same, Text, TryClone};
-use contract::{Input, Party};
-use eutxo::{
-    Resolved, Scripts, Shared, Spent, StepAnswer, StepFault, Validator, check, has_signed,
+use chain::{
+    Bundle, Datum, Output, Resolved, Scripts, Shared, Spent, StepAnswer, StepFault, Tx, Validator,
+    Verdict, check, has_signed,
 };
-use eutxo_types::{Datum, Output, Tx, Verdict};
+use contract::{Bytes, Input, Items, Memory, Party, Same, Text, TryClone};
 use std::alloc::Global;
 use std::sync::Arc;
 

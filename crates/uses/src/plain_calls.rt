@@ -1,17 +1,14 @@
 //! The calls of a chain, each with the reply that its kind has.
 ghost use Rattle.std.specs.Prelude.{◌≡◌, IfOk, OnOk, OnErr};
-ghost use Rattle.ledger.specs.declared.call.Call.TheVariants as on;
-ghost use Rattle.ledger_spec.specs.Replay.{world};
-ghost use Rattle.ledger_spec.specs.Views.{look};
-ghost use Rattle.ledger_spec.specs.Calls.{reply_to};
-ghost use Rattle.ledger_spec.specs.Headline.{BuildsAreAccepted};
+ghost use Rattle.chain.specs.LedgerSpec.Ledger.declared.call.Call.TheVariants as on;
+ghost use Rattle.chain.specs.LedgerSpec.Replay.{world};
+ghost use Rattle.chain.specs.LedgerSpec.Views.{look};
+ghost use Rattle.chain.specs.LedgerSpec.Calls.{reply_to};
+ghost use Rattle.chain.specs.LedgerSpec.Headline.{BuildsAreAccepted};
 ghost use Rattle.uses.specs.Uses.{thread_ask, at_tick, called, OnlyLooked};
 
-use chain::{Call, Chain, Reply};
-use collections::{Items, Memory, TryClone};
-use contract::Interval;
-use eutxo_types::{OutputRef, Tx};
-use ledger::{Ask, Look};
+use chain::{Ask, Call, Chain, Look, OutputRef, Reply, Tx};
+use contract::{Interval, Items, Memory, TryClone};
 use std::alloc::Global;
 
 // The interval of a tick alone.

@@ -1,15 +1,12 @@
 //! A step of a thread, now.
 ghost use Rattle.std.specs.Prelude.{◌≡◌, ◌≢◌, Some, IfOk, IfErr, OnOk, OnErr};
-ghost use Rattle.builder_spec.specs.Parts.{hinders_step};
+ghost use Rattle.chain.specs.LedgerSpec.BuilderSpec.Parts.{hinders_step};
 ghost use Rattle.uses.specs.Uses.{thread_ask, thread_look, step_asked, IsStepped, after_step, OnlyLooked};
 
 use crate::plain_calls::{at_tick, look_at, submit, thread_ask};
 use builder::{BuildFault, build_step};
-use chain::{Chain, Reply};
-use collections::Text;
-use contract::Input;
-use eutxo_types::OutputRef;
-use ledger::Unspent;
+use chain::{Chain, OutputRef, Reply, Unspent};
+use contract::{Input, Text};
 use std::alloc::Global;
 
 /// Steps the thread from a start output at the present tick, with inputs of the contract that need signatures alone:

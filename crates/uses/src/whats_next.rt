@@ -1,12 +1,12 @@
 //! What can be done next with a contract, after some transactions.
 ghost use Rattle.std.specs.Prelude.{IfOk};
 ghost use Rattle.contract.specs.Tree.{contract_tree};
-ghost use Rattle.semantics.specs.Walk.{standing};
+ghost use Rattle.chain.specs.LedgerSpec.Semantics.Walk.{standing};
 ghost use Rattle.uses.specs.WhatsNext.{IsNextAfter};
 
+use chain::Plain;
 use contract::{Contract, Interval, SemFault, State, Transaction};
 use next_inputs::{NextInputs, next_inputs};
-use semantics::Plain;
 use std::alloc::Global;
 use trace::{Refused, after};
 

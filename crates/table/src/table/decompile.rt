@@ -6,9 +6,10 @@ ghost use Rattle.table.specs.Flat.{Stands, AllStand, a_value, an_observation, a_
 ghost use Rattle.table.specs.DecompileSupport.{AreValuesAt, AreObservationsAt};
 
 use crate::table::Table;
-use collections::{Boxed, Items, Memory, Text, TryClone};
-use contract::{Action, Case, Contract, Observation, Value};
-use names::{Bound, ChoiceId, Party, Payee, Token};
+use contract::{
+    Action, Bound, Boxed, Case, ChoiceId, Contract, Items, Memory, Observation, Party, Payee, Text,
+    Token, TryClone, Value,
+};
 use nodes::{CaseNode, Cont, ContNode, ObservationNode, ValueNode};
 use std::alloc::Global;
 

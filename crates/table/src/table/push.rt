@@ -5,7 +5,7 @@ ghost use Rattle.table.specs.Flat.{trees, value_of, observation_of, case_of, con
 ghost use Rattle.table.specs.Pushing.{with_value, with_observation, with_case, with_cont};
 
 use crate::table::Table;
-use collections::Memory;
+use contract::Memory;
 use nodes::{CaseNode, Cont, ContNode, Entry, ObservationNode, ValueNode};
 
 impl Table {

@@ -2,7 +2,7 @@
 ghost use Rattle.std.specs.Prelude.{◌≡◌, ◌↔◌, IsTrue, IfOk};
 
 use crate::table::Table;
-use collections::{Memory, Same, TryClone};
+use contract::{Memory, Same, TryClone};
 use std::hash::{Hash, Hasher};
 
 impl TryClone for Table {
@@ -79,8 +79,8 @@ fn same_all<T: Same>(xs: &[T], ys: &[T]) -> bool
 }
 
 impl PartialEq for Table {
-    ghost use Rattle.collections.specs.Same.{same_by};
-    ghost use Rattle.collections.proofs.SameLaws.{same_by-partial};
+    ghost use Rattle.contract.specs.Collections.Same.{same_by};
+    ghost use Rattle.contract.proofs.FromCollections.SameLaws.{same_by-partial};
     ghost use Rattle.table.specs.contracts.table.Table as it;
 
     ghost eq = { same_by it.the_row.coded };
@@ -93,7 +93,7 @@ impl PartialEq for Table {
 }
 
 impl Eq for Table {
-    ghost use Rattle.collections.proofs.SameLaws.{same_by-equiv};
+    ghost use Rattle.contract.proofs.FromCollections.SameLaws.{same_by-equiv};
     ghost use Rattle.table.specs.contracts.table.Table as it;
 
     ghost laws = { same_by-equiv it.the_row.coded };
@@ -101,7 +101,7 @@ impl Eq for Table {
 
 impl Hash for Table {
     ghost use Rattle.std.specs.Hash.{same_Alike};
-    ghost use Rattle.collections.proofs.SameLaws.{same_by_decides};
+    ghost use Rattle.contract.proofs.FromCollections.SameLaws.{same_by_decides};
     ghost use Rattle.table.specs.contracts.table.Table as it;
     ghost use Rattle.table.specs.Hashing.{flat_writes};
 

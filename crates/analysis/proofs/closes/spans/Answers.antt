@@ -1,5 +1,5 @@
 use Rattle.std.proofs.Common.{List, subst, ◌∙◌}
-use Rattle.names.specs.declared.account.Account.{Account}
+use Rattle.contract.specs.Names.declared.account.Account.{Account}
 use Rattle.analysis.specs.Closes.{NamesAll}
 use Rattle.analysis.proofs.ClosesLemmas.{closed}
 use Rattle.analysis.proofs.closes.spans.Goals as goal

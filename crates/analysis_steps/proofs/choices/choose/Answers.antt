@@ -1,5 +1,5 @@
 use Rattle.std.proofs.Common.{List, [], Some, None, sym, subst}
-use Rattle.names.specs.declared.bound.Bound.{Bound}
+use Rattle.contract.specs.Names.declared.bound.Bound.{Bound}
 use Rattle.analysis_walk.specs.Conclusions.{ChoosesSo}
 use Rattle.analysis_walk.specs.Knowledge.{actions_before}
 use Rattle.analysis_values.specs.Known.{IsDescribed}

@@ -1,5 +1,5 @@
 use Rattle.std.proofs.Common.{pos, arith}
-use Rattle.names.specs.declared.bound.Bound.{Bound}
+use Rattle.contract.specs.Names.declared.bound.Bound.{Bound}
 use Rattle.analysis_steps.proofs.ChosenLemmas.{hull_none, hull_on, hull_all}
 use Rattle.analysis_steps.proofs.choices.hull.Goals as goal
 

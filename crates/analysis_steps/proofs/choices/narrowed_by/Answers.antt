@@ -1,7 +1,7 @@
 use Rattle.std.proofs.Common.{pos, arith, rules, FitsSigned}
 use Rattle.std.specs.Int.{w128}
 use Rattle.std.proofs.lemmas.Int.{to_z-of_z}
-use Rattle.names.specs.declared.bound.Bound.{Bound}
+use Rattle.contract.specs.Names.declared.bound.Bound.{Bound}
 use Rattle.semantics.specs.Applying.{in_bound}
 use Rattle.analysis_steps.proofs.ChosenLemmas.{outside_at}
 use Rattle.analysis_steps.proofs.choices.narrowed_by.Goals as goal

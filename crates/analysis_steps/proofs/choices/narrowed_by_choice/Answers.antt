@@ -1,6 +1,6 @@
 use Rattle.std.proofs.Common.{sym, ◌∙◌}
 use Rattle.std.specs.List.{list_any}
-use Rattle.names.specs.Equal.{same_choice_id}
+use Rattle.contract.specs.Names.Equal.{same_choice_id}
 use Rattle.semantics.specs.Applying.{in_bound}
 use Rattle.analysis_steps.proofs.ChosenLemmas.{and_right}
 use Rattle.analysis_steps.proofs.choices.narrowed_by_choice.Goals as goal

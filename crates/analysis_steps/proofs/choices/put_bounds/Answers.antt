@@ -1,5 +1,5 @@
 use Rattle.std.proofs.Common.{pos, sym, ap, ◌++◌, ◌∷◌, [], ◌∙◌, append-nil, arith}
-use Rattle.names.specs.declared.bound.Bound.{Bound}
+use Rattle.contract.specs.Names.declared.bound.Bound.{Bound}
 use Rattle.analysis_steps.proofs.ChosenLemmas.{claims_bound, claims_all}
 use Rattle.analysis_steps.proofs.choices.put_bounds.Goals as goal
 

@@ -1,5 +1,5 @@
 use Rattle.std.proofs.lemmas.Result.{IfOk-weaker}
-use Rattle.names.specs.declared.payee.Payee.TheVariants.{Account as ToAccount}
+use Rattle.contract.specs.Names.declared.payee.Payee.TheVariants.{Account as ToAccount}
 use Rattle.analysis_steps.specs.Moved.{Grows, Moves}
 use Rattle.analysis_steps.proofs.MovedLemmas.{moves_to_account}
 use Rattle.analysis_steps.proofs.moved.to_account.Goals as goal

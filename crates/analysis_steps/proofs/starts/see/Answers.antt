@@ -2,7 +2,7 @@ use Rattle.std.proofs.Common.{◌≡◌, true, All, FitsSigned, subst, arith, ru
 use Rattle.std.specs.Int.{w128}
 use Rattle.std.proofs.lemmas.List.{take_all}
 use Rattle.std.proofs.lemmas.List.Elements.{All-more, recursion_from_All}
-use Rattle.evaluation.specs.Numbers.{fits}
+use Rattle.semantics.specs.Evaluation.Numbers.{fits}
 use Rattle.analysis_steps.proofs.StartLemmas.{fits_signed}
 use Rattle.analysis_steps.proofs.starts.see.Goals as goal
 

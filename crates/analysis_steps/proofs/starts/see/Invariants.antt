@@ -1,5 +1,5 @@
 use Rattle.std.proofs.Common.{◌≡◌, take, true, All}
-use Rattle.evaluation.specs.Numbers.{fits}
+use Rattle.semantics.specs.Evaluation.Numbers.{fits}
 use Rattle.analysis_steps.proofs.starts.see.Given as goal
 
 abbrev pub invariant-loop-entry : goal.invariant-loop-entry

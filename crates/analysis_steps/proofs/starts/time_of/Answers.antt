@@ -1,6 +1,6 @@
 use Rattle.std.proofs.Common.{◌≡◌, true, FitsSigned, subst, rules}
 use Rattle.std.specs.Int.{w64}
-use Rattle.evaluation.specs.Numbers.{fits}
+use Rattle.semantics.specs.Evaluation.Numbers.{fits}
 use Rattle.analysis_steps.proofs.StartLemmas.{fits_short}
 use Rattle.analysis_steps.proofs.starts.time_of.Goals as goal
 

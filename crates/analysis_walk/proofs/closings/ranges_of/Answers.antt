@@ -1,5 +1,5 @@
 use Rattle.std.proofs.Common.{◌≡◌, sym, ◌∙◌, ap, subst, List, ◌∷◌, [], ◌++◌, take, ◌+◌}
-use Rattle.names.specs.declared.account.Account.{Account}
+use Rattle.contract.specs.Names.declared.account.Account.{Account}
 use Rattle.analysis_spec.specs.declared.paid.PaidRange.{PaidRange}
 use Rattle.analysis_walk.specs.declared.row.Row.{Row}
 use Rattle.analysis_walk.specs.Rows.{AreBounded, NameAll, range_of}

@@ -1,6 +1,6 @@
 use Rattle.std.proofs.Common.{◌∙◌, ap}
 use Rattle.std.specs.FinMap.Entries.{put}
-use Rattle.names.specs.Orders.{account_cmp}
+use Rattle.contract.specs.Names.Orders.{account_cmp}
 use Rattle.builder.proofs.CopyLemmas.{put_next}
 use Rattle.builder.proofs.fresh.copy_accounts.Goals as goal
 

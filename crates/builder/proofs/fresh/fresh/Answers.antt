@@ -2,7 +2,7 @@ use Rattle.std.proofs.Common.{◌≡◌, rules, [], sym, ◌∙◌, ap, subst}
 use Rattle.std.proofs.Math.Dec.{T}
 use Rattle.std.specs.FinMap.{entries_sorted, from_sorted}
 use Rattle.std.specs.FinMap.Entries.{is_sorted}
-use Rattle.names.specs.Orders.{account_cmp}
+use Rattle.contract.specs.Names.Orders.{account_cmp}
 use Rattle.builder.proofs.CopyLemmas.{state_of, fresh_is}
 use Rattle.builder.proofs.fresh.fresh.Goals as goal
 

@@ -1,7 +1,7 @@
 use Rattle.std.proofs.Common.{◌≡◌, true, None, is_none, sym, ◌∙◌, ap, subst}
 use Rattle.std.specs.Option.{option_map}
-use Rattle.eutxo.specs.Faults.{is_empty}
-use Rattle.names.specs.Equal.{ada}
+use Rattle.builder_spec.specs.Eutxo.Faults.{is_empty}
+use Rattle.contract.specs.Names.Equal.{ada}
 use Rattle.builder_spec.specs.declared.fault.BuildFault.TheVariants.{NoFunds}
 use Rattle.builder_spec.specs.Requests.{StartRequest}
 use Rattle.builder_spec.specs.Holding.{sums, amount_in, least_lacking}

@@ -1,5 +1,5 @@
 use Rattle.std.proofs.Common.{◌≡◌, true, false, [], ◌∷◌, refl, sym, ◌∙◌, ap, subst}
-use Rattle.bundle.specs.Bundles.{covers}
+use Rattle.builder_spec.specs.Bundle.Bundles.{covers}
 use Rattle.builder_spec.specs.Holding.{sums, amount_in}
 use Rattle.builder_spec.specs.Causes.{is_much}
 use Rattle.builder_spec.specs.Starts.{start_output}

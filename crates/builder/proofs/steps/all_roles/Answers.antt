@@ -1,5 +1,5 @@
 use Rattle.std.proofs.Common.{◌++◌, drop, ◌+◌, sym, ◌∙◌, ap, append_assoc}
-use Rattle.roles.specs.declared.published.Published.{Published}
+use Rattle.builder_spec.specs.Roles.declared.published.Published.{Published}
 use Rattle.builder_spec.specs.Steps.{Stepped, roles_of}
 use Rattle.builder_spec.specs.Parts.{all_roles}
 use Rattle.coin_selection.proofs.ListLaws.{here}

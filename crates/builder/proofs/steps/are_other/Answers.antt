@@ -1,6 +1,6 @@
 use Rattle.std.proofs.Common.{not, ap}
-use Rattle.collections.proofs.SameLaws.{same_by_from}
-use Rattle.roles.specs.contracts.published.Published as publications
+use Rattle.contract.proofs.FromCollections.SameLaws.{same_by_from}
+use Rattle.builder_spec.specs.Roles.contracts.published.Published as publications
 use Rattle.builder.proofs.steps.are_other.Goals as goal
 
 pub returns : goal.returns

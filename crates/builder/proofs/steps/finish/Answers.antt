@@ -1,5 +1,5 @@
 use Rattle.std.proofs.Common.{◌≡◌, IfOk, subst}
-use Rattle.eutxo_types.specs.declared.tx.Tx.{Tx}
+use Rattle.builder_spec.specs.EutxoTypes.declared.tx.Tx.{Tx}
 use Rattle.builder.proofs.FinishedLemmas.{finished_room, finished_covers, finished_layout}
 use Rattle.builder.proofs.steps.finish.Goals as goal
 

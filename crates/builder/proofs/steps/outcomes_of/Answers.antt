@@ -1,5 +1,5 @@
 use Rattle.std.proofs.Common.{◌+◌, take, sym, ◌∙◌, subst}
-use Rattle.semantics.specs.Walk.{answer_of}
+use Rattle.builder_spec.specs.Semantics.Walk.{answer_of}
 use Rattle.builder_spec.specs.Steps.{Stepped, semantics_cause}
 use Rattle.builder_spec.specs.Parts.{part_walk}
 use Rattle.builder.specs.PartsSupport.{AreOutcomes}

@@ -3,7 +3,7 @@ use mir.Syntax.{w128}
 use Rattle.std.proofs.Math.Dec.{T}
 use Rattle.std.proofs.Math.Facts.{to_z-of_z}
 use Rattle.std.specs.FinMap.{from_sorted, is_sorted}
-use Rattle.collections.proofs.Places.{third}
+use Rattle.names.proofs.FromCollections.Places.{third}
 use Rattle.names.specs.Orders.{token_cmp}
 use Rattle.bundle.specs.Bundles.{is_large, any_large}
 use Rattle.bundle.proofs.LoopLemmas.{large_now, large_later}

@@ -6,7 +6,7 @@ use Rattle.std.specs.Option.{unwrap_or}
 use Rattle.names.specs.declared.token.Token.{Token}
 use Rattle.names.specs.Orders.{token_cmp}
 use Rattle.names.specs.Totals.{token_total}
-use Rattle.collections.proofs.Places.{at_in_range, find_gap}
+use Rattle.names.proofs.FromCollections.Places.{at_in_range, find_gap}
 use Rattle.bundle.proofs.WalkLemmas.{amount_there, amount_in-natural}
 use Rattle.bundle.proofs.bundle.found_amount.Goals as goal
 

@@ -5,7 +5,7 @@ use Rattle.names.specs.declared.token.Token.{Token}
 use Rattle.std.specs.Option.{unwrap_or}
 use Rattle.names.specs.Orders.{token_cmp}
 use Rattle.names.specs.Totals.{token_total}
-use Rattle.collections.proofs.Places.{IsAt, IsGap, at_in_range, find_gap}
+use Rattle.names.proofs.FromCollections.Places.{IsAt, IsGap, at_in_range, find_gap}
 use Rattle.bundle.proofs.LessLemmas.{put_is_set}
 use Rattle.bundle.proofs.bundle.write_known.Goals as goal
 

@@ -4,7 +4,7 @@ use Rattle.std.proofs.Math.Dec.{T}
 use Rattle.std.proofs.Math.Facts.{to_z-of_z}
 use Rattle.std.specs.Prelude.{int_lt}
 use Rattle.std.specs.FinMap.{from_sorted, is_sorted}
-use Rattle.collections.proofs.Places.{third}
+use Rattle.names.proofs.FromCollections.Places.{third}
 use Rattle.names.specs.Orders.{token_cmp}
 use Rattle.bundle.specs.Bundles.{first_short}
 use Rattle.bundle.proofs.LoopLemmas.{short_now, short_later}

@@ -1,11 +1,11 @@
 use Rattle.std.proofs.Common.{All}
-use Rattle.eutxo_types.specs.Fitting.{TxFits}
-use Rattle.ledger_laws.specs.Sound.{AreKeys}
-use Rattle.ledger_spec.specs.Headline.{BothHalves}
-use Rattle.ledger_spec.specs.Legal.{IsLegal, before_entry}
-use Rattle.ledger_spec.specs.Replay.{Course, world, past_of, published_at}
-use Rattle.ledger_spec.proofs.LegalLaws.{legal_before}
-use Rattle.ledger_spec.proofs.StartsLaws.{shown_starts}
+use Rattle.ledger_views.specs.EutxoTypes.Fitting.{TxFits}
+use Rattle.ledger_views.specs.LedgerLaws.Sound.{AreKeys}
+use Rattle.ledger_views.specs.LedgerSpec.Headline.{BothHalves}
+use Rattle.ledger_views.specs.LedgerSpec.Legal.{IsLegal, before_entry}
+use Rattle.ledger_views.specs.LedgerSpec.Replay.{Course, world, past_of, published_at}
+use Rattle.ledger_views.proofs.FromLedgerSpec.LegalLaws.{legal_before}
+use Rattle.ledger_views.proofs.FromLedgerSpec.StartsLaws.{shown_starts}
 use Rattle.chain.proofs.LegalLemmas.{legal_sound, fits_before}
 use Rattle.chain.proofs.HeadlineLemmas.{IsSoundCourse, accepts_built, accepts_places, shows_standing}
 use Rattle.chain.proofs.RunsLemmas.{runs_of_contracts, just_one_run}

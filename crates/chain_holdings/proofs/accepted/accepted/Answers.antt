@@ -1,5 +1,5 @@
 use Rattle.std.proofs.Common.{◌≡◌, length, arith}
-use Rattle.ledger_spec.specs.Replay.{world}
+use Rattle.ledger_kept.specs.LedgerSpec.Replay.{world}
 use Rattle.chain_holdings.proofs.TallyLemmas.{accepted_next, accepted_end}
 use Rattle.chain_holdings.proofs.accepted.accepted.Goals as goal
 

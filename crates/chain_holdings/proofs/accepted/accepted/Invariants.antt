@@ -1,5 +1,5 @@
 use Rattle.std.proofs.Common.{◌≡◌, ◌-◌, length, take}
-use Rattle.ledger_spec.specs.Replay.{world}
+use Rattle.ledger_kept.specs.LedgerSpec.Replay.{world}
 use Rattle.chain_holdings.proofs.accepted.accepted.Given as goal
 
 abbrev pub invariant-loop-tx : goal.invariant-loop-tx

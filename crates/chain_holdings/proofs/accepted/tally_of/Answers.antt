@@ -1,6 +1,6 @@
 use Rattle.std.proofs.Common.{rules, ◌≡◌, ℤ, List, take, to_z, of_z, w64, subst, arith}
 use Rattle.std.proofs.lemmas.List.{length-take-le, take_all}
-use Rattle.ledger.specs.declared.call.Entry.{Entry}
+use Rattle.ledger_kept.specs.Ledger.declared.call.Entry.{Entry}
 use Rattle.chain_holdings.proofs.TallyLemmas.{IsOf, some_course, tally_next}
 use Rattle.chain_holdings.proofs.accepted.tally_of.Goals as goal
 

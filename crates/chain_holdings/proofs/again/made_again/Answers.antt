@@ -1,7 +1,7 @@
 use Rattle.std.proofs.Common.{rules, ◌≡◌, ℤ, to_z, of_z, w64, ap, sym, ◌∙◌, subst}
-use Rattle.ledger.specs.declared.call.Call.{Call}
-use Rattle.ledger_spec.specs.Legal.{IsLegal, with_entry, entry_of}
-use Rattle.ledger_spec.specs.Replay.{Course}
+use Rattle.ledger_kept.specs.Ledger.declared.call.Call.{Call}
+use Rattle.ledger_kept.specs.LedgerSpec.Legal.{IsLegal, with_entry, entry_of}
+use Rattle.ledger_kept.specs.LedgerSpec.Replay.{Course}
 use Rattle.chain_holdings.specs.After.{course}
 use Rattle.chain_holdings.proofs.AgainLemmas.{next_again}
 use Rattle.chain_holdings.proofs.again.made_again.Goals as goal

@@ -1,7 +1,7 @@
 use Rattle.std.proofs.Common.{get_or, ◌∙◌}
-use Rattle.eutxo_types.specs.declared.output_ref.OutputRef.{OutputRef}
-use Rattle.eutxo_types.specs.declared.output_ref.OutputRef.TheVariants.{Genesis}
-use Rattle.ledger_spec.specs.Replay.{world}
+use Rattle.ledger_kept.specs.EutxoTypes.declared.output_ref.OutputRef.{OutputRef}
+use Rattle.ledger_kept.specs.EutxoTypes.declared.output_ref.OutputRef.TheVariants.{Genesis}
+use Rattle.ledger_kept.specs.LedgerSpec.Replay.{world}
 use Rattle.chain_holdings.proofs.StillLemmas.{still_on, shown_still, shown_next}
 use Rattle.chain_holdings.proofs.ends.ends_after.Goals as goal
 

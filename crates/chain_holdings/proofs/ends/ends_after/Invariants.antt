@@ -1,5 +1,5 @@
 use Rattle.std.proofs.Common.{◌≡◌, map, take}
-use Rattle.ledger_spec.specs.Replay.{world}
+use Rattle.ledger_kept.specs.LedgerSpec.Replay.{world}
 use Rattle.chain_holdings.specs.After.{shown_at}
 use Rattle.chain_holdings.specs.StillSupport.{IsStill}
 use Rattle.chain_holdings.proofs.ends.ends_after.Given as goal

@@ -1,5 +1,5 @@
 use Rattle.std.proofs.Common.{sym, subst}
-use Rattle.ledger_spec.specs.Replay.{Course}
+use Rattle.ledger_kept.specs.LedgerSpec.Replay.{Course}
 use Rattle.chain_holdings.specs.StillSupport.{IsStill}
 use Rattle.chain_holdings.proofs.StillLemmas.{look_still}
 use Rattle.chain_holdings.proofs.ends.look_at.Goals as goal

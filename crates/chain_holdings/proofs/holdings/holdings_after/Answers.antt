@@ -1,6 +1,6 @@
 use Rattle.std.proofs.Common.{rules, ◌≡◌, to_z, of_z, w64, ap, sym, ◌∙◌, subst}
 use Rattle.std.proofs.lemmas.Result.{IfOk-weaker}
-use Rattle.ledger_spec.specs.Legal.{IsLegal}
+use Rattle.ledger_kept.specs.LedgerSpec.Legal.{IsLegal}
 use Rattle.chain_holdings.proofs.AfterLemmas.{same_course, holdings_fit, are_holdings, are_what_there_was}
 use Rattle.chain_holdings.proofs.holdings.holdings_after.Goals as goal
 

@@ -1,7 +1,7 @@
 use Rattle.std.proofs.Common.{◌∙◌, ap}
-use Rattle.eutxo.specs.declared.resolved.Resolved.{Resolved}
-use Rattle.roles.specs.declared.published.Published.{Published}
-use Rattle.ledger_spec.specs.Replay.{past_of, world}
+use Rattle.ledger_kept.specs.Eutxo.declared.resolved.Resolved.{Resolved}
+use Rattle.ledger_kept.specs.Roles.declared.published.Published.{Published}
+use Rattle.ledger_kept.specs.LedgerSpec.Replay.{past_of, world}
 use Rattle.chain_holdings.specs.CreatedSupport.{first_there}
 use Rattle.chain_holdings.proofs.CreatedLemmas.{one_found}
 use Rattle.chain_holdings.proofs.unspent.is_unspent.Goals as goal

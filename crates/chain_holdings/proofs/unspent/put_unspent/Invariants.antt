@@ -1,6 +1,6 @@
 use Rattle.std.proofs.Common.{◌≡◌, ◌++◌, drop}
-use Rattle.ledger_laws.specs.Past.{with_references}
-use Rattle.ledger_spec.specs.Replay.{past_of, world}
+use Rattle.ledger_kept.specs.LedgerLaws.Past.{with_references}
+use Rattle.ledger_kept.specs.LedgerSpec.Replay.{past_of, world}
 use Rattle.chain_holdings.specs.CreatedSupport.{reference_by, unspent_among}
 use Rattle.chain_holdings.proofs.unspent.put_unspent.Given as goal
 

@@ -1,4 +1,4 @@
-use Rattle.ledger_spec.specs.Replay.{past_of, world}
+use Rattle.ledger_kept.specs.LedgerSpec.Replay.{past_of, world}
 use Rattle.chain_holdings.proofs.CreatedLemmas.{unspent_end}
 use Rattle.chain_holdings.proofs.unspent.unspent.Goals as goal
 

@@ -1,6 +1,6 @@
 use Rattle.std.proofs.Common.{◌≡◌, ◌++◌, drop}
-use Rattle.ledger_laws.specs.Past.{created, created_by_all}
-use Rattle.ledger_spec.specs.Replay.{past_of, world}
+use Rattle.ledger_kept.specs.LedgerLaws.Past.{created, created_by_all}
+use Rattle.ledger_kept.specs.LedgerSpec.Replay.{past_of, world}
 use Rattle.chain_holdings.specs.CreatedSupport.{unspent_among}
 use Rattle.chain_holdings.proofs.unspent.unspent.Given as goal
 

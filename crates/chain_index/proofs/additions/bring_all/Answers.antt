@@ -1,5 +1,5 @@
 use Rattle.std.proofs.Common.{◌∙◌, ◌++◌, arith}
-use Rattle.eutxo_types.specs.declared.output_ref.OutputRef.TheVariants.{Made}
+use Rattle.ledger_spec.specs.EutxoTypes.declared.output_ref.OutputRef.TheVariants.{Made}
 use Rattle.chain_index.specs.NamingSupport.{slots}
 use Rattle.chain_index.specs.PartsSupport.{one_datum}
 use Rattle.chain_index.proofs.DataLemmas.{next_bringing}

@@ -1,5 +1,5 @@
 use Rattle.std.proofs.Common.{◌∙◌, ap, sym, subst, List}
-use Rattle.eutxo_types.specs.declared.output_ref.OutputRef.{OutputRef}
+use Rattle.ledger_spec.specs.EutxoTypes.declared.output_ref.OutputRef.{OutputRef}
 use Rattle.chain_index.specs.Contents.{is_among}
 use Rattle.chain_index.specs.PartsSupport.{IsFront}
 use Rattle.chain_index.proofs.FrontLemmas.{with_front}

@@ -1,7 +1,7 @@
 use Rattle.std.proofs.Common.{◌≡◌, ◌||◌, drop}
 use Rattle.std.specs.List.{list_any}
-use Rattle.eutxo_types.specs.declared.output_ref.OutputRef.{OutputRef}
-use Rattle.eutxo_types.specs.Parts.{same_ref}
+use Rattle.ledger_spec.specs.EutxoTypes.declared.output_ref.OutputRef.{OutputRef}
+use Rattle.ledger_spec.specs.EutxoTypes.Parts.{same_ref}
 use Rattle.chain_index.specs.Contents.{is_among}
 use Rattle.chain_index.specs.PartsSupport.{IsFront}
 use Rattle.chain_index.proofs.additions.leave_all.Given as goal

@@ -1,5 +1,5 @@
 use Rattle.std.proofs.Common.{◌+◌, ◌≤◌, List, drop, length, sym, ◌∙◌, subst, arith}
-use Rattle.eutxo_types.specs.declared.spend.Spend.{Spend}
+use Rattle.ledger_spec.specs.EutxoTypes.declared.spend.Spend.{Spend}
 use Rattle.chain_index.proofs.MoveLemmas.{AreMoving, first_unmoved, next_moving, not_moving, none_moving, same_moving}
 use Rattle.chain_index.proofs.additions.move_all.Goals.{then-is_step+then-count-places+in_ok-move_one, then-is_step+else-count-places, else-is_step}
 use Rattle.chain_index.proofs.additions.move_all.Goals as goal

@@ -1,5 +1,5 @@
 use Rattle.std.proofs.Common.{◌≡◌, ◌≤◌, ◌++◌, ℕ, false, drop}
-use Rattle.ledger_laws.specs.Past.{with_references}
+use Rattle.ledger_spec.specs.LedgerLaws.Past.{with_references}
 use Rattle.chain_index.specs.Contents.{is_among}
 use Rattle.chain_index.specs.HolesSupport.{known}
 use Rattle.chain_index.specs.NamingSupport.{naming, slots}

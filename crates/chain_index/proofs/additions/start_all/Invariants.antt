@@ -1,5 +1,5 @@
 use Rattle.std.proofs.Common.{◌≡◌, take}
-use Rattle.eutxo_types.specs.Parts.{contract_count}
+use Rattle.ledger_spec.specs.EutxoTypes.Parts.{contract_count}
 use Rattle.chain_index.proofs.StartLemmas.{AreStarting}
 use Rattle.chain_index.proofs.additions.start_all.Given as goal
 

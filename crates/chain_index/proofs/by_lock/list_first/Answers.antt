@@ -1,5 +1,5 @@
 use Rattle.std.proofs.Common.{◌∙◌, ◌||◌, sym, ap, refl, Some}
-use Rattle.eutxo_types.specs.Parts.{same_ref}
+use Rattle.ledger_spec.specs.EutxoTypes.Parts.{same_ref}
 use Rattle.chain_index.specs.Contents.{is_among}
 use Rattle.chain_index.specs.LocksSupport.{refs_in}
 use Rattle.chain_index.proofs.LockLemmas.{told_under, noted}

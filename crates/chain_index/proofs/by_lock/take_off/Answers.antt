@@ -1,6 +1,6 @@
 use Rattle.std.proofs.Common.{◌∙◌, ◌&&◌, not, sym, ap, refl, Some, is_some}
 use Rattle.std.specs.Map.{lookup}
-use Rattle.eutxo_types.specs.Parts.{same_ref}
+use Rattle.ledger_spec.specs.EutxoTypes.Parts.{same_ref}
 use Rattle.chain_index.specs.Contents.{is_among}
 use Rattle.chain_index.specs.LocksSupport.{refs_in}
 use Rattle.chain_index.proofs.LockLemmas.{name_same, told_under, gone}

@@ -1,6 +1,6 @@
 use Rattle.std.proofs.Common.{◌≡◌, None, ◌∙◌, subst, sym}
 use Rattle.std.specs.Map.{lookup}
-use Rattle.eutxo_types.specs.contracts.output_ref.OutputRefPartialEq.TheImpl.{ghosts}
+use Rattle.ledger_spec.specs.EutxoTypes.contracts.output_ref.OutputRefPartialEq.TheImpl.{ghosts}
 use Rattle.indexmap.proofs.CallerLemmas.{insert_entry-new}
 use Rattle.chain_index.proofs.RefLemmas.{eq_same}
 use Rattle.chain_index.proofs.LiveLemmas.{absent_lookup}

@@ -2,7 +2,7 @@ use Rattle.std.proofs.Common.{◌∙◌, ap, subst, Some, None}
 use Rattle.std.specs.List.{IsDistinct}
 use Rattle.std.specs.Option.{option_copied_mut}
 use Rattle.std.specs.Map.{keys_of, set_value}
-use Rattle.eutxo_types.specs.contracts.output_ref.OutputRefPartialEq.TheImpl.{ghosts}
+use Rattle.ledger_spec.specs.EutxoTypes.contracts.output_ref.OutputRefPartialEq.TheImpl.{ghosts}
 use Rattle.chain_index.specs.HolesSupport.{live}
 use Rattle.chain_index.proofs.RefLemmas.{eq_same}
 use Rattle.chain_index.proofs.LiveLemmas.{removed, value_so, without_so}

@@ -1,4 +1,4 @@
-use Rattle.roles.specs.Steps.{marlowe}
+use Rattle.ledger_spec.specs.Roles.Steps.{marlowe}
 use Rattle.chain_index.proofs.PastLemmas.{accepts_alike, places_alike, can_be_added}
 use Rattle.chain_index.proofs.laws.index_accepts_alike.Goals as goal
 

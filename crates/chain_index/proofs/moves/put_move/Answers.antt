@@ -1,5 +1,5 @@
 use Rattle.std.proofs.Common.{◌∙◌}
-use Rattle.eutxo_types.specs.contracts.output_ref.OutputRefPartialEq.TheImpl.{ghosts}
+use Rattle.ledger_spec.specs.EutxoTypes.contracts.output_ref.OutputRefPartialEq.TheImpl.{ghosts}
 use Rattle.indexmap.proofs.CallerLemmas.{insert_entry-new}
 use Rattle.chain_index.proofs.MoveLemmas.{new_there}
 use Rattle.chain_index.proofs.moves.put_move.Goals as goal

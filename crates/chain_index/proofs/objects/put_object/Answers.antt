@@ -1,7 +1,7 @@
 use Rattle.std.proofs.Common.{◌≡◌, ◌∙◌, ◌++◌, ◌∷◌, [], ap, sym, subst, None}
 use Rattle.std.specs.Map.{lookup}
-use Rattle.roles.specs.declared.published.Published.{Published}
-use Rattle.eutxo_types.specs.Parts.{same_bytes}
+use Rattle.ledger_spec.specs.Roles.declared.published.Published.{Published}
+use Rattle.ledger_spec.specs.EutxoTypes.Parts.{same_bytes}
 use Rattle.indexmap.proofs.CallerLemmas.{insert_entry-new}
 use Rattle.chain_index.specs.PartsSupport.{AreNamed}
 use Rattle.chain_index.proofs.ObjectLemmas.{Named, found_named, named_more}

@@ -1,5 +1,5 @@
 use Rattle.std.proofs.Common.{sym, ◌∙◌, ap, List}
-use Rattle.eutxo_types.specs.declared.output_ref.OutputRef.{OutputRef}
+use Rattle.ledger_spec.specs.EutxoTypes.declared.output_ref.OutputRef.{OutputRef}
 use Rattle.chain_index.specs.HolesSupport.{live, staying}
 use Rattle.chain_index.proofs.LiveLemmas.{staying_more, none_leave, no_keys}
 use Rattle.chain_index.proofs.outputs.take_all_out.Goals as goal

@@ -1,6 +1,6 @@
 use Rattle.std.proofs.Common.{◌∙◌, ◌-◌, ap, sym, take, length, arith}
 use Rattle.std.proofs.lemmas.List.{length-take-le, take_all}
-use Rattle.ledger_laws.proofs.PlainLaws.{take_twice}
+use Rattle.ledger_spec.proofs.FromLedgerLaws.PlainLaws.{take_twice}
 use Rattle.chain_index.proofs.outputs.truncate.Goals as goal
 
 pub loop-outputs-preserved : goal.loop-outputs-preserved

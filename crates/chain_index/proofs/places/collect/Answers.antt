@@ -1,7 +1,7 @@
 use Rattle.std.proofs.Common.{◌∙◌, ◌||◌, ◌&&◌, List, ap, sym}
 use Rattle.std.specs.List.{slice_get}
 use Rattle.std.proofs.lemmas.List.{drop_all}
-use Rattle.eutxo_types.specs.declared.output_ref.OutputRef.{OutputRef}
+use Rattle.ledger_spec.specs.EutxoTypes.declared.output_ref.OutputRef.{OutputRef}
 use Rattle.chain_index.specs.Contents.{is_among}
 use Rattle.chain_index.specs.LocksSupport.{is_named}
 use Rattle.chain_index.specs.UnderLocksSupport.{is_shown, passes_at, has_place}

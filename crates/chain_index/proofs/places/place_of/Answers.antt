@@ -1,5 +1,5 @@
 use Rattle.std.proofs.Common.{◌∙◌, sym, ap, Option}
-use Rattle.eutxo_types.specs.declared.output.Output.{Output}
+use Rattle.ledger_spec.specs.EutxoTypes.declared.output.Output.{Output}
 use Rattle.chain_index.specs.LocksSupport.{is_named}
 use Rattle.chain_index.specs.UnderLocksSupport.{is_shown}
 use Rattle.chain_index.proofs.PlaceLemmas.{place_passes, place_fails, place_of_none}

@@ -1,7 +1,7 @@
 use Rattle.std.proofs.Common.{◌∙◌, ◌||◌, List, sym, ap}
 use Rattle.std.specs.List.{slice_get}
 use Rattle.std.proofs.lemmas.List.{drop_all}
-use Rattle.ledger.specs.declared.ask.PayoutLock.{PayoutLock}
+use Rattle.ledger_spec.specs.Ledger.declared.ask.PayoutLock.{PayoutLock}
 use Rattle.ledger_spec.specs.Views.{is_payout_of}
 use Rattle.chain_index.specs.declared.lock_name.LockName.TheVariants.{Role}
 use Rattle.chain_index.specs.LocksSupport.{is_named}

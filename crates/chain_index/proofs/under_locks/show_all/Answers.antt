@@ -1,5 +1,5 @@
 use Rattle.std.proofs.Common.{◌∙◌, ◌++◌, ap, sym}
-use Rattle.ledger_laws.proofs.PlainLaws.{no_more}
+use Rattle.ledger_spec.proofs.FromLedgerLaws.PlainLaws.{no_more}
 use Rattle.chain_index.specs.UnderLocksSupport.{rows_at}
 use Rattle.chain_index.proofs.ShownLemmas.{no_places, next_row}
 use Rattle.chain_index.proofs.under_locks.show_all.Goals as goal

@@ -1,6 +1,6 @@
 use Rattle.std.proofs.Common.{◌≡◌, map, drop}
 use Rattle.contract.specs.Tree.{case_tree, case_trees}
-use Rattle.evaluation.specs.Timeouts.{later, last_in}
+use Rattle.semantics.specs.Evaluation.Timeouts.{later, last_in}
 use Rattle.closing_times.proofs.last.+last_timeout.Given as goal
 
 -- the latest so far and of the rest is the latest of all

@@ -1,7 +1,7 @@
 use Rattle.std.proofs.Common.{◌≡◌, ℤ, ◌++◌, drop, map}
-use Rattle.names.specs.declared.account.Account.{Account}
-use Rattle.states.specs.States.{AllPositive}
-use Rattle.roles.specs.Steps.{only}
+use Rattle.contract.specs.Names.declared.account.Account.{Account}
+use Rattle.contract.specs.States.States.{AllPositive}
+use Rattle.builder_spec.specs.Roles.Steps.{only}
 use Rattle.coin_selection.proofs.accounts.bundles_of.Given as goal
 
 abbrev pub invariant-loop-account : goal.invariant-loop-account

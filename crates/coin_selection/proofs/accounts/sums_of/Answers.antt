@@ -1,8 +1,8 @@
 use Rattle.std.proofs.Common.{◌≡◌, true, sym, ◌∙◌, ap, subst, ◌⊎◌}
 use Rattle.std.specs.Prelude.{IfOk, IfErr}
-use Rattle.bundle.specs.declared.fault.BundleFault.TheVariants as faults
-use Rattle.states.specs.States.{AllPositive}
-use Rattle.roles.specs.Sums.{sums_in, sums_of}
+use Rattle.builder_spec.specs.Bundle.declared.fault.BundleFault.TheVariants as faults
+use Rattle.contract.specs.States.States.{AllPositive}
+use Rattle.builder_spec.specs.Roles.Sums.{sums_in, sums_of}
 use Rattle.builder_spec.specs.Holding.{sums}
 use Rattle.builder_spec.specs.Causes.{is_much}
 use Rattle.coin_selection.proofs.SingleLemmas.{itself, sums-singles}

@@ -1,6 +1,6 @@
 use Rattle.std.proofs.Common.{◌≡◌, ℤ, ◌++◌, drop, map}
-use Rattle.names.specs.declared.account.Account.{Account}
-use Rattle.states.specs.States.{AllPositive}
+use Rattle.contract.specs.Names.declared.account.Account.{Account}
+use Rattle.contract.specs.States.States.{AllPositive}
 use Rattle.coin_selection.proofs.amounts.amounts_of.Given as goal
 
 abbrev pub invariant-loop-account : goal.invariant-loop-account

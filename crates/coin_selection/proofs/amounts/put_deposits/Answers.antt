@@ -1,8 +1,8 @@
 use Rattle.std.proofs.Common.{◌≡◌, ◌+◌, [], ◌∷◌, Option, Some, None, drop, sym, ◌∙◌, ap, subst, ℤ}
 use Rattle.std.specs.List.{cons_option}
-use Rattle.names.specs.declared.token.Token.{Token}
+use Rattle.contract.specs.Names.declared.token.Token.{Token}
 use Rattle.builder_spec.specs.Steps.{deposits}
-use Rattle.roles.proofs.PutLaws.{IsPut, put_more, put_nothing, left_at}
+use Rattle.builder_spec.proofs.FromRoles.PutLaws.{IsPut, put_more, put_nothing, left_at}
 use Rattle.coin_selection.proofs.PutLemmas.{deposits_next}
 use Rattle.coin_selection.proofs.amounts.put_deposits.Goals.{in-Some+in_ok-push, in_default}
 use Rattle.coin_selection.proofs.amounts.put_deposits.Goals as goal

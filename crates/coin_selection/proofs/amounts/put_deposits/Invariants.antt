@@ -1,5 +1,5 @@
 use Rattle.std.proofs.Common.{drop}
-use Rattle.roles.proofs.PutLaws.{IsPut}
+use Rattle.builder_spec.proofs.FromRoles.PutLaws.{IsPut}
 use Rattle.builder_spec.specs.Steps.{deposits}
 use Rattle.coin_selection.proofs.amounts.put_deposits.Given as goal
 

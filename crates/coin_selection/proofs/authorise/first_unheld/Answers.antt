@@ -1,6 +1,6 @@
 use Rattle.std.proofs.Common.{◌+◌, Some, if◌then◌else◌, drop, sym, ◌∙◌, ap}
 use Rattle.std.specs.Option.{option_map}
-use Rattle.names.specs.declared.token.Token.{Token}
+use Rattle.contract.specs.Names.declared.token.Token.{Token}
 use Rattle.builder_spec.specs.Holding.{first_unheld}
 use Rattle.coin_selection.proofs.RoleTokenLemmas.{unheld_first}
 use Rattle.coin_selection.proofs.authorise.first_unheld.Goals as goal

@@ -1,7 +1,7 @@
 use Rattle.std.proofs.Common.{subst, ◌⊎◌, inl, inr}
 use Rattle.std.specs.FinMap.{entries}
-use Rattle.bundle.specs.Bundles.{AllPositive}
-use Rattle.ledger.specs.declared.look.Unspent.{Unspent}
+use Rattle.builder_spec.specs.Bundle.Bundles.{AllPositive}
+use Rattle.builder_spec.specs.Ledger.declared.look.Unspent.{Unspent}
 use Rattle.coin_selection.proofs.SharesLemmas.{much_later}
 use Rattle.coin_selection.proofs.limits.+spent.Goals as goal
 

@@ -1,6 +1,6 @@
 use Rattle.std.proofs.Common.{◌≡◌, Bool, true, false, not, refl, sym, ◌∙◌, ap, arith}
 use Rattle.std.specs.Prelude.{if◌then◌else◌}
-use Rattle.eutxo_types.specs.Parts.{same_ref}
+use Rattle.builder_spec.specs.EutxoTypes.Parts.{same_ref}
 use Rattle.coin_selection.proofs.ListLaws.{repeat_here, once_here, among_here}
 use Rattle.coin_selection.proofs.limits.has_repeat.Goals as goal
 

@@ -1,8 +1,8 @@
 use Rattle.std.proofs.Common.{◌≡◌, false, drop}
 use Rattle.std.specs.List.{list_any}
 use Rattle.std.specs.HashSet.{contains}
-use Rattle.eutxo_types.specs.declared.output_ref.OutputRef.{OutputRef}
-use Rattle.eutxo_types.specs.Parts.{same_ref}
+use Rattle.builder_spec.specs.EutxoTypes.declared.output_ref.OutputRef.{OutputRef}
+use Rattle.builder_spec.specs.EutxoTypes.Parts.{same_ref}
 use Rattle.builder_spec.specs.Causes.{has_repeat}
 use Rattle.coin_selection.proofs.limits.has_repeat.Given as goal
 

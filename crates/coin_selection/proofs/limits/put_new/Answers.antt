@@ -1,5 +1,5 @@
 use Rattle.std.proofs.Common.{refl}
-use Rattle.eutxo_types.specs.contracts.output_ref.OutputRefPartialEq.TheImpl.{ghosts}
+use Rattle.builder_spec.specs.EutxoTypes.contracts.output_ref.OutputRefPartialEq.TheImpl.{ghosts}
 use Rattle.coin_selection.proofs.ListLaws.{agree, moved}
 use Rattle.coin_selection.proofs.limits.put_new.Goals as goal
 

@@ -1,5 +1,5 @@
 use Rattle.std.proofs.Common.{◌≡◌, ◌++◌, drop, map}
-use Rattle.ledger.specs.declared.look.Unspent.{Unspent}
+use Rattle.builder_spec.specs.Ledger.declared.look.Unspent.{Unspent}
 use Rattle.coin_selection.proofs.limits.put_references.Given as goal
 
 abbrev pub invariant-loop-unspent : goal.invariant-loop-unspent

@@ -1,6 +1,6 @@
 use Rattle.std.proofs.Common.{sym, ap, arith}
 use Rattle.std.proofs.lemmas.Int.{ints}
-use Rattle.names.specs.Orders.{token_cmp}
+use Rattle.contract.specs.Names.Orders.{token_cmp}
 use Rattle.std.specs.Prelude.{is_some}
 use Rattle.std.specs.BTreeMap as tree
 use Rattle.coin_selection.proofs.MissingLemmas.{plus_there, plus_none}

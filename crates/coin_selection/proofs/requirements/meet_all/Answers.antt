@@ -1,5 +1,5 @@
 use Rattle.std.proofs.Common.{◌-ℤ◌, take, subst}
-use Rattle.bundle.specs.Totals.{total_of}
+use Rattle.builder_spec.specs.Bundle.Totals.{total_of}
 use Rattle.builder_spec.specs.Holding.{amount_in}
 use Rattle.coin_selection.specs.RequiredSupport.{IsMissing}
 use Rattle.coin_selection.proofs.ListLaws.{up_to}

@@ -1,6 +1,6 @@
 use Rattle.std.proofs.Common.{ℤ, ◌-ℤ◌, take}
-use Rattle.names.specs.declared.token.Token.{Token}
-use Rattle.bundle.specs.Totals.{total_of}
+use Rattle.contract.specs.Names.declared.token.Token.{Token}
+use Rattle.builder_spec.specs.Bundle.Totals.{total_of}
 use Rattle.builder_spec.specs.Holding.{amount_in}
 use Rattle.coin_selection.specs.RequiredSupport.{IsMissing}
 use Rattle.coin_selection.proofs.requirements.meet_all.Given as goal

@@ -1,8 +1,8 @@
 use Rattle.std.proofs.Common.{◌≡◌, ◌+◌, ◌++◌, [], ◌∷◌, List, Option, Some, None, drop, sym, ◌∙◌, ap, subst}
 use Rattle.std.specs.Option.{option_to_list}
-use Rattle.names.specs.declared.token.Token.{Token}
+use Rattle.contract.specs.Names.declared.token.Token.{Token}
 use Rattle.builder_spec.specs.Steps.{roles_of}
-use Rattle.roles.proofs.PutLaws.{IsPut, put_more, put_nothing, left_at}
+use Rattle.builder_spec.proofs.FromRoles.PutLaws.{IsPut, put_more, put_nothing, left_at}
 use Rattle.coin_selection.proofs.PutLemmas.{roles_next}
 use Rattle.coin_selection.proofs.role_tokens.put_roles.Goals.{in-Some+in_ok-push, in_default}
 use Rattle.coin_selection.proofs.role_tokens.put_roles.Goals as goal

@@ -1,5 +1,5 @@
 use Rattle.std.proofs.Common.{◌≡◌, true, sym, ◌∙◌, ap, subst, IfOk, IfErr, ◌⊎◌, inl, inr, arith}
-use Rattle.bundle.specs.declared.fault.BundleFault.TheVariants as faults
+use Rattle.builder_spec.specs.Bundle.declared.fault.BundleFault.TheVariants as faults
 use Rattle.builder_spec.specs.Holding.{sums, AreBundles}
 use Rattle.builder_spec.specs.Causes.{is_much}
 use Rattle.coin_selection.proofs.HalvesLemmas.{one_sum, in_halves, joined, much_first, much_others, single}

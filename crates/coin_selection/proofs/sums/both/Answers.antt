@@ -1,8 +1,8 @@
 use Rattle.std.proofs.Common.{◌≡◌, Bool, true, false, Result, Err, refl, subst, ◌⊎◌, inl, inr}
 use Rattle.std.specs.Result.{IsOkUnless}
-use Rattle.bundle.specs.Bundles.{too_large}
-use Rattle.bundle.specs.declared.fault.BundleFault.{BundleFault}
-use Rattle.bundle.specs.declared.fault.BundleFault.TheVariants as faults
+use Rattle.builder_spec.specs.Bundle.Bundles.{too_large}
+use Rattle.builder_spec.specs.Bundle.declared.fault.BundleFault.{BundleFault}
+use Rattle.builder_spec.specs.Bundle.declared.fault.BundleFault.TheVariants as faults
 use Rattle.builder_spec.proofs.HoldingLaws.{too_large_much}
 use Rattle.coin_selection.proofs.sums.both.Goals as goal
 

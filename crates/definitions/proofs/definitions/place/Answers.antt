@@ -1,5 +1,5 @@
 use Rattle.std.proofs.Common.{◌≡◌, true, false, get_or, sym, ◌∙◌, subst}
-use Rattle.names.specs.Equal.{same_text}
+use Rattle.contract.specs.Names.Equal.{same_text}
 use Rattle.definitions.proofs.NamedLemmas.{place-here, place-before}
 use Rattle.definitions.proofs.definitions.place.Goals as goal
 

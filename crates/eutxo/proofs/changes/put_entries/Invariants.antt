@@ -1,5 +1,5 @@
 use Rattle.std.proofs.Common.{◌≡◌, ◌++◌, drop}
-use Rattle.bundle.specs.Bundles.{AllPositive}
+use Rattle.eutxo_types.specs.Bundle.Bundles.{AllPositive}
 use Rattle.eutxo.specs.ChangesSupport.{signed_entries}
 use Rattle.eutxo.proofs.changes.put_entries.Given as goal
 

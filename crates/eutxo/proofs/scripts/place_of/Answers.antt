@@ -1,6 +1,6 @@
 use Rattle.std.proofs.Common.{rules}
 use Rattle.std.proofs.lemmas.Fn.{always_returns_same}
-use Rattle.names.specs.Orders.{bytes_cmp}
+use Rattle.contract.specs.Names.Orders.{bytes_cmp}
 use Rattle.eutxo.proofs.ScriptSearchLemmas.{searched}
 use Rattle.eutxo.proofs.scripts.place_of.Goals as goal
 

@@ -1,8 +1,8 @@
 use Rattle.std.proofs.Math.Dec.{T}
 use Rattle.std.specs.FinMap.Entries.{is_sorted}
 use Rattle.std.proofs.Common.{◌∙◌, sym, subst, arith}
-use Rattle.names.specs.Orders.{bytes_cmp}
-use Rattle.collections.proofs.Places.{IsAt, IsGap, at_in_range, gap_in_range, put_at, put_gap}
+use Rattle.contract.specs.Names.Orders.{bytes_cmp}
+use Rattle.contract.proofs.FromCollections.Places.{IsAt, IsGap, at_in_range, gap_in_range, put_at, put_gap}
 use Rattle.eutxo.proofs.ScriptPutLemmas.{sorted_put}
 use Rattle.eutxo.proofs.scripts.put_script.Goals as goal
 

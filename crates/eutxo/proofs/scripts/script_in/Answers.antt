@@ -1,7 +1,7 @@
 use Rattle.std.proofs.Common.{◌∙◌, ap, sym, Some, arith}
-use Rattle.names.specs.Orders.{bytes_cmp}
-use Rattle.names.specs.Totals.{bytes_total}
-use Rattle.collections.proofs.Places.{at_in_range, find_at, find_gap}
+use Rattle.contract.specs.Names.Orders.{bytes_cmp}
+use Rattle.contract.specs.Names.Totals.{bytes_total}
+use Rattle.contract.proofs.FromCollections.Places.{at_in_range, find_at, find_gap}
 use Rattle.eutxo.proofs.scripts.script_in.Goals as goal
 
 pub offset_bounds-entries-at : goal.offset_bounds-entries-at

@@ -1,9 +1,9 @@
 use Rattle.std.proofs.Common.{◌≡◌, sym, ◌∙◌, ℕ, List, [], ◌++◌, rules}
 use Rattle.std.proofs.lemmas.List.{append-nil}
 use Rattle.std.proofs.lemmas.Result.{on_err_weaker}
-use Rattle.contract_bytes.specs.Writing.{AppendsFront}
-use Rattle.contract_bytes.specs.Numbers.{time_bytes, text_bytes, list_bytes}
-use Rattle.contract_bytes.proofs.Fronts.{on_any_err, front_as, front_first, wrote_both, front_then}
+use Rattle.machine.specs.ContractBytes.Writing.{AppendsFront}
+use Rattle.machine.specs.ContractBytes.Numbers.{time_bytes, text_bytes, list_bytes}
+use Rattle.machine.proofs.FromContractBytes.Fronts.{on_any_err, front_as, front_first, wrote_both, front_then}
 use Rattle.machine.specs.Spelling.{datum_bytes}
 use Rattle.eutxo_types.specs.Spelling.{spend_bytes, output_bytes}
 use Rattle.eutxo_types.proofs.encode.put_tx.Goals as goal

@@ -1,7 +1,7 @@
 use Rattle.std.proofs.Common.{◌+◌, ◌<◌, ◌≤◌, ap, sym, subst, ◌∙◌, arith, Option, Some}
 use Rattle.contract.specs.declared.tree.Case.{Case}
 use Rattle.contract.specs.Tree.{ContractTree, contract_tree}
-use Rattle.table.specs.Heights.{contract_height}
+use Rattle.compiler.specs.Table.Heights.{contract_height}
 use Rattle.explain_tables.specs.declared.branches.Branch.{Branch}
 use Rattle.explain_tables.proofs.DepthLemmas.{behind_at, low_more, low_all}
 use Rattle.explain_tables.proofs.depths.high_case.Goals as goal

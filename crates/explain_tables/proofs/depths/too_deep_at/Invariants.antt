@@ -1,6 +1,6 @@
 use Rattle.std.proofs.Common.{◌≡◌, ◌+◌, ◌<◌, Some}
 use Rattle.contract.specs.Tree.{contract_tree}
-use Rattle.table.specs.Heights.{contract_height}
+use Rattle.compiler.specs.Table.Heights.{contract_height}
 use Rattle.trace.specs.Paths.{part_along}
 use Rattle.explain_tables.specs.Depths.{levels_of}
 use Rattle.explain_tables.specs.DepthsSupport.{IsWay}

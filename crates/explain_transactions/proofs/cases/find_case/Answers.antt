@@ -1,5 +1,5 @@
 use Rattle.std.proofs.Common.{sym, ◌∙◌}
-use Rattle.evaluation.specs.Path.{waits_for}
+use Rattle.semantics.specs.Evaluation.Path.{waits_for}
 use Rattle.next_inputs.specs.Taking.{taken_case, leaving_case}
 use Rattle.explain_transactions.proofs.CasesLemmas.{further_none, taken_past, leaving_past, taken_here, leaving_here, taken_within}
 use Rattle.explain_transactions.proofs.cases.find_case.Goals as goal

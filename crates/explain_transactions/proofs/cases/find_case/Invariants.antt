@@ -1,5 +1,5 @@
 use Rattle.std.proofs.Common.{◌≡◌, drop}
-use Rattle.evaluation.specs.Path.{waits_for}
+use Rattle.semantics.specs.Evaluation.Path.{waits_for}
 use Rattle.next_inputs.specs.Taking.{taken_case, leaving_case}
 use Rattle.explain_transactions.proofs.CasesLemmas.{further}
 use Rattle.explain_transactions.proofs.cases.find_case.Given as goal

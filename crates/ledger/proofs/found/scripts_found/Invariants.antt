@@ -1,5 +1,5 @@
 use Rattle.std.proofs.Common.{◌≡◌, drop}
-use Rattle.eutxo.specs.Judgement.{found_names, scripts_found}
+use Rattle.roles.specs.Eutxo.Judgement.{found_names, scripts_found}
 use Rattle.ledger.proofs.found.scripts_found.Given as goal
 
 abbrev pub invariant-loop-i : goal.invariant-loop-i

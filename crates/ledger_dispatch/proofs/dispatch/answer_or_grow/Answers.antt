@@ -1,8 +1,8 @@
 use Rattle.std.proofs.Common.{sym, subst}
 use Rattle.std.proofs.lemmas.Result.{on_ok_weaker}
-use Rattle.ledger.specs.declared.call.Call.{Call}
-use Rattle.ledger_spec.specs.Replay.{world}
-use Rattle.ledger_kept.specs.Kept.{IsIndexOf, world_with}
+use Rattle.ledger_views.specs.Ledger.declared.call.Call.{Call}
+use Rattle.ledger_views.specs.LedgerSpec.Replay.{world}
+use Rattle.ledger_views.specs.LedgerKept.Kept.{IsIndexOf, world_with}
 use Rattle.ledger_dispatch.proofs.TiedLemmas.{advanced, submitted, enqueued, rounded}
 use Rattle.ledger_dispatch.proofs.dispatch.answer_or_grow.Goals as goal
 

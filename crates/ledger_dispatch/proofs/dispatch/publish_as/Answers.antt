@@ -1,11 +1,11 @@
 use Rattle.std.proofs.Common.{◌≡◌, sym, ◌∙◌, ap, subst, Result, Ok}
 use Rattle.std.proofs.lemmas.Result.{on_ok_weaker, IfOk-weaker}
-use Rattle.compiler.specs.declared.fault.CompileFault.{CompileFault}
-use Rattle.roles.specs.declared.published.Published.{Published}
-use Rattle.ledger_spec.specs.Replay.{World, publication, with_object, published_at}
-use Rattle.ledger_spec.specs.Calls.{publish_reply, publish_reply_beside}
-use Rattle.chain_index.specs.Contents.{Contents}
-use Rattle.ledger_kept.specs.Kept.{IsIndexOf}
+use Rattle.ledger_views.specs.Compiler.declared.fault.CompileFault.{CompileFault}
+use Rattle.ledger_views.specs.Roles.declared.published.Published.{Published}
+use Rattle.ledger_views.specs.LedgerSpec.Replay.{World, publication, with_object, published_at}
+use Rattle.ledger_views.specs.LedgerSpec.Calls.{publish_reply, publish_reply_beside}
+use Rattle.ledger_views.specs.ChainIndex.Contents.{Contents}
+use Rattle.ledger_views.specs.LedgerKept.Kept.{IsIndexOf}
 use Rattle.ledger_dispatch.proofs.TiedLemmas.{published_more}
 use Rattle.ledger_dispatch.proofs.dispatch.publish_as.Goals as goal
 

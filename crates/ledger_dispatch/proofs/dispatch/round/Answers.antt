@@ -1,9 +1,9 @@
 use Rattle.std.proofs.Common.{◌≡◌, ◌+◌, ◌++◌, ◌∷◌, [], length, List, sym, ◌∙◌, ap, subst, refl, take, drop, Some, length-append}
 use Rattle.std.specs.List.{slice_get}
-use Rattle.ledger.specs.declared.call.Ticketed.{Ticketed}
-use Rattle.ledger_spec.specs.Replay.{Pending, World, pending_entry, world}
-use Rattle.ledger_spec.specs.Calls.{fault_on, round_verdicts}
-use Rattle.ledger_kept.specs.Kept.{IsIndexOf}
+use Rattle.ledger_views.specs.Ledger.declared.call.Ticketed.{Ticketed}
+use Rattle.ledger_views.specs.LedgerSpec.Replay.{Pending, World, pending_entry, world}
+use Rattle.ledger_views.specs.LedgerSpec.Calls.{fault_on, round_verdicts}
+use Rattle.ledger_views.specs.LedgerKept.Kept.{IsIndexOf}
 use Rattle.ledger_dispatch.specs.DispatchSupport.{with_places}
 use Rattle.ledger_dispatch.proofs.TiedLemmas.{can_be_taken, tied_after}
 use Rattle.ledger_dispatch.proofs.RoundLemmas.{at_taken, begun, ticketed, stands_on, told_more}

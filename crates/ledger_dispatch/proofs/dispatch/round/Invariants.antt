@@ -1,7 +1,7 @@
 use Rattle.std.proofs.Common.{◌≡◌, ◌++◌, length, take, drop}
-use Rattle.ledger_spec.specs.Replay.{world}
-use Rattle.ledger_spec.specs.Calls.{round_verdicts}
-use Rattle.ledger_kept.specs.Kept.{IsIndexOf}
+use Rattle.ledger_views.specs.LedgerSpec.Replay.{world}
+use Rattle.ledger_views.specs.LedgerSpec.Calls.{round_verdicts}
+use Rattle.ledger_views.specs.LedgerKept.Kept.{IsIndexOf}
 use Rattle.ledger_dispatch.specs.DispatchSupport.{with_places}
 use Rattle.ledger_dispatch.proofs.dispatch.round.Given as goal
 

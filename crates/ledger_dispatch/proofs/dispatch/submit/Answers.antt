@@ -1,7 +1,7 @@
 use Rattle.std.proofs.Common.{ℕ, List, sym, ◌∙◌, ap}
-use Rattle.ledger.specs.declared.call.Reply.TheVariants as replies
-use Rattle.ledger_spec.specs.Replay.{world}
-use Rattle.ledger_spec.specs.Calls.{submit_reply}
+use Rattle.ledger_views.specs.Ledger.declared.call.Reply.TheVariants as replies
+use Rattle.ledger_views.specs.LedgerSpec.Replay.{world}
+use Rattle.ledger_views.specs.LedgerSpec.Calls.{submit_reply}
 use Rattle.ledger_dispatch.proofs.TiedLemmas.{can_be_taken, tied_after}
 use Rattle.ledger_dispatch.proofs.dispatch.submit.Goals as goal
 

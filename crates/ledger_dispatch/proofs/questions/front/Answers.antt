@@ -1,6 +1,6 @@
 use Rattle.std.proofs.Common.{List, ◌∷◌, ◌++◌, [], sym, ◌∙◌, ap, map, take}
-use Rattle.ledger_spec.specs.Replay.{Pending, pending_entry, world}
-use Rattle.ledger_spec.specs.Views.{with_found}
+use Rattle.ledger_views.specs.LedgerSpec.Replay.{Pending, pending_entry, world}
+use Rattle.ledger_views.specs.LedgerSpec.Views.{with_found}
 use Rattle.ledger_dispatch.proofs.RoundLemmas.{mapped_more}
 use Rattle.ledger_dispatch.proofs.questions.front.Goals as goal
 

@@ -1,6 +1,6 @@
 use Rattle.std.proofs.Common.{◌≡◌, map, take}
-use Rattle.ledger_spec.specs.Replay.{world}
-use Rattle.ledger_spec.specs.Views.{with_found}
+use Rattle.ledger_views.specs.LedgerSpec.Replay.{world}
+use Rattle.ledger_views.specs.LedgerSpec.Views.{with_found}
 use Rattle.ledger_dispatch.proofs.questions.front.Given as goal
 
 abbrev pub invariant-loop-i : goal.invariant-loop-i

@@ -1,4 +1,4 @@
-use Rattle.bundle.proofs.PositiveLaws.{amount_of-natural}
+use Rattle.chain_index.proofs.FromBundle.PositiveLaws.{amount_of-natural}
 use Rattle.ledger_kept.proofs.genesis.is_natural.Goals as goal
 
 pub returns : goal.returns

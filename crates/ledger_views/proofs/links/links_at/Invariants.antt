@@ -1,6 +1,6 @@
 use Rattle.std.proofs.Common.{◌≡◌, Some, take, map}
-use Rattle.ledger_spec.specs.Replay.{world}
-use Rattle.chain_index.specs.Laws.{link_at}
+use Rattle.ledger_kept.specs.LedgerSpec.Replay.{world}
+use Rattle.ledger_kept.specs.ChainIndex.Laws.{link_at}
 use Rattle.ledger_views.proofs.links.links_at.Given as goal
 
 abbrev pub invariant-loop-step : goal.invariant-loop-step

@@ -1,9 +1,9 @@
 use Rattle.std.proofs.Common.{◌∙◌}
 use Rattle.std.proofs.lemmas.Result.{IfOk-weaker}
-use Rattle.roles.specs.Steps.{marlowe}
-use Rattle.ledger_laws.specs.Threads.{thread}
-use Rattle.ledger_spec.specs.Replay.{past_of, published_at, world}
-use Rattle.chain_index.specs.Laws.{link_at}
+use Rattle.ledger_kept.specs.Roles.Steps.{marlowe}
+use Rattle.ledger_kept.specs.LedgerLaws.Threads.{thread}
+use Rattle.ledger_kept.specs.LedgerSpec.Replay.{past_of, published_at, world}
+use Rattle.ledger_kept.specs.ChainIndex.Laws.{link_at}
 use Rattle.ledger_views.proofs.LinkLemmas.{each_there, all_same, along_thread}
 use Rattle.ledger_views.proofs.links.thread.Goals as goal
 

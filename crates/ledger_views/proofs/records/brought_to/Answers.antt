@@ -1,6 +1,6 @@
 use Rattle.std.proofs.Common.{ℕ, ◌+◌, List, sym, ◌∙◌, ap, arith, drop}
-use Rattle.eutxo_types.specs.declared.spend.Spend.{Spend}
-use Rattle.ledger_laws.specs.Threads.{brought_to}
+use Rattle.ledger_kept.specs.EutxoTypes.declared.spend.Spend.{Spend}
+use Rattle.ledger_kept.specs.LedgerLaws.Threads.{brought_to}
 use Rattle.ledger_views.proofs.BroughtLemmas.{left_at, behind_step, behind_other}
 use Rattle.ledger_views.proofs.records.brought_to.Goals as goal
 use Rattle.ledger_views.proofs.records.brought_to.Goals.{then-is_step, else-is_step}

@@ -1,5 +1,5 @@
 use Rattle.std.proofs.Common.{◌≡◌, ◌≤◌, drop}
-use Rattle.ledger_laws.specs.Threads.{brought_to}
+use Rattle.ledger_kept.specs.LedgerLaws.Threads.{brought_to}
 use Rattle.ledger_views.proofs.records.brought_to.Given as goal
 
 abbrev pub invariant-loop-x : goal.invariant-loop-x

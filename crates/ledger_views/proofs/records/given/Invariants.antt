@@ -1,5 +1,5 @@
 use Rattle.std.proofs.Common.{◌≡◌, drop}
-use Rattle.eutxo_types.specs.Parts.{given_to}
+use Rattle.ledger_kept.specs.EutxoTypes.Parts.{given_to}
 use Rattle.ledger_views.proofs.records.given.Given as goal
 
 abbrev pub invariant-loop-x : goal.invariant-loop-x

@@ -1,8 +1,8 @@
 use Rattle.std.proofs.Common.{sym, ◌∙◌, ap}
 use Rattle.std.specs.Option.{option_copied}
-use Rattle.eutxo_types.specs.declared.tx.Tx.{Tx}
-use Rattle.roles.specs.Terms.{terms_of}
-use Rattle.ledger_laws.specs.Threads.{brought_to}
+use Rattle.ledger_kept.specs.EutxoTypes.declared.tx.Tx.{Tx}
+use Rattle.ledger_kept.specs.Roles.Terms.{terms_of}
+use Rattle.ledger_kept.specs.LedgerLaws.Threads.{brought_to}
 use Rattle.ledger_views.proofs.NextRecordLemmas.{brings_one}
 use Rattle.ledger_views.proofs.records.recorded.Goals as goal
 

@@ -1,12 +1,12 @@
 use Rattle.std.proofs.Common.{◌≡◌, ℕ, true, List, Option, refl, sym, ◌∙◌, ap}
-use Rattle.table.specs.AlongLaws.{along_tree}
-use Rattle.eutxo_types.specs.declared.tx.Tx.{Tx}
-use Rattle.roles.specs.declared.published.Published.{Published}
-use Rattle.roles.specs.Terms.{terms_of}
-use Rattle.ledger_laws.specs.Past.{Past}
-use Rattle.ledger_laws.specs.Threads.{Member}
-use Rattle.ledger_spec.specs.declared.step_record.StepRecord.{StepRecord}
-use Rattle.ledger_spec.specs.Records.{member_of}
+use Rattle.ledger_kept.specs.Table.AlongLaws.{along_tree}
+use Rattle.ledger_kept.specs.EutxoTypes.declared.tx.Tx.{Tx}
+use Rattle.ledger_kept.specs.Roles.declared.published.Published.{Published}
+use Rattle.ledger_kept.specs.Roles.Terms.{terms_of}
+use Rattle.ledger_kept.specs.LedgerLaws.Past.{Past}
+use Rattle.ledger_kept.specs.LedgerLaws.Threads.{Member}
+use Rattle.ledger_kept.specs.LedgerSpec.declared.step_record.StepRecord.{StepRecord}
+use Rattle.ledger_kept.specs.LedgerSpec.Records.{member_of}
 use Rattle.ledger_views.specs.RecordsSupport.{given, instance_next, number_after, IsStepOf}
 use Rattle.ledger_views.proofs.NextRecordLemmas.{has_so, record_so}
 use Rattle.ledger_views.proofs.records.recorded_from.Goals as goal

@@ -1,8 +1,8 @@
 use Rattle.std.proofs.Common.{◌≡◌, ◌≤◌, true, ◌∙◌, sym, arith, length}
-use Rattle.roles.specs.Steps.{marlowe}
-use Rattle.roles.specs.Terms.{terms_of}
-use Rattle.ledger_laws.specs.Threads.{next_of}
-use Rattle.ledger_spec.specs.declared.step_record.StepRecord.{StepRecord}
+use Rattle.ledger_kept.specs.Roles.Steps.{marlowe}
+use Rattle.ledger_kept.specs.Roles.Terms.{terms_of}
+use Rattle.ledger_kept.specs.LedgerLaws.Threads.{next_of}
+use Rattle.ledger_kept.specs.LedgerSpec.declared.step_record.StepRecord.{StepRecord}
 use Rattle.ledger_views.proofs.LinkLemmas.{leads_at}
 use Rattle.ledger_views.proofs.NextRecordLemmas.{step_next, goes_next, none_left, all_next, count_next, hold_next}
 use Rattle.ledger_views.proofs.records.records_of.Goals as goal

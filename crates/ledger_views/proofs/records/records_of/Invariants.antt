@@ -1,11 +1,11 @@
 use Rattle.std.proofs.Common.{◌≡◌, ℕ, true, List, Option, drop, length}
 use Rattle.std.specs.List.{All}
-use Rattle.roles.specs.declared.published.Published.{Published}
-use Rattle.roles.specs.Steps.{marlowe}
-use Rattle.roles.specs.Terms.{terms_of}
-use Rattle.ledger_laws.specs.Past.{Past}
-use Rattle.ledger_laws.specs.Threads.{Member, next_of, Carries}
-use Rattle.ledger_spec.specs.Records.{HoldNumbers}
+use Rattle.ledger_kept.specs.Roles.declared.published.Published.{Published}
+use Rattle.ledger_kept.specs.Roles.Steps.{marlowe}
+use Rattle.ledger_kept.specs.Roles.Terms.{terms_of}
+use Rattle.ledger_kept.specs.LedgerLaws.Past.{Past}
+use Rattle.ledger_kept.specs.LedgerLaws.Threads.{Member, next_of, Carries}
+use Rattle.ledger_kept.specs.LedgerSpec.Records.{HoldNumbers}
 use Rattle.ledger_views.specs.RecordsSupport.{Leads, Goes}
 use Rattle.ledger_views.proofs.records.records_of.Given as goal
 

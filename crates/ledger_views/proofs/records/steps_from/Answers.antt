@@ -1,15 +1,15 @@
 use Rattle.std.proofs.Common.{◌≡◌, ℕ, true, List, Option, Some, map, sym, ◌∙◌, ap, subst}
 use Rattle.std.specs.Option.{option_copied}
 use Rattle.std.specs.List.{All}
-use Rattle.eutxo_types.specs.Parts.{Instance}
-use Rattle.roles.specs.declared.published.Published.{Published}
-use Rattle.roles.specs.Steps.{marlowe}
-use Rattle.roles.specs.Terms.{terms_of}
-use Rattle.ledger_laws.specs.Past.{Past}
-use Rattle.ledger_laws.specs.Threads.{next_of, Link, Member, Carries}
-use Rattle.ledger_spec.specs.Replay.{world, past_of, published_at}
-use Rattle.ledger_spec.specs.Records.{member_of, TellTheRun, HoldNumbers}
-use Rattle.chain_index.specs.Contents.{Contents, end_in}
+use Rattle.ledger_kept.specs.EutxoTypes.Parts.{Instance}
+use Rattle.ledger_kept.specs.Roles.declared.published.Published.{Published}
+use Rattle.ledger_kept.specs.Roles.Steps.{marlowe}
+use Rattle.ledger_kept.specs.Roles.Terms.{terms_of}
+use Rattle.ledger_kept.specs.LedgerLaws.Past.{Past}
+use Rattle.ledger_kept.specs.LedgerLaws.Threads.{next_of, Link, Member, Carries}
+use Rattle.ledger_kept.specs.LedgerSpec.Replay.{world, past_of, published_at}
+use Rattle.ledger_kept.specs.LedgerSpec.Records.{member_of, TellTheRun, HoldNumbers}
+use Rattle.ledger_kept.specs.ChainIndex.Contents.{Contents, end_in}
 use Rattle.ledger_views.specs.RecordsSupport.{Leads}
 use Rattle.ledger_views.proofs.RecordsLemmas.{is_named, carried_there, tells, leads_there, all_ok}
 use Rattle.ledger_views.proofs.records.steps_from.Goals as goal

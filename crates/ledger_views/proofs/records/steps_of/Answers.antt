@@ -1,8 +1,8 @@
 use Rattle.std.proofs.Common.{List, sym, ◌∙◌, subst}
 use Rattle.std.proofs.lemmas.Result.{IfOk-weaker}
-use Rattle.ledger_spec.specs.Replay.{world, past_of, published_at}
-use Rattle.ledger_spec.specs.declared.step_record.StepRecord.{StepRecord}
-use Rattle.ledger_spec.specs.Records.{AreSteps}
+use Rattle.ledger_kept.specs.LedgerSpec.Replay.{world, past_of, published_at}
+use Rattle.ledger_kept.specs.LedgerSpec.declared.step_record.StepRecord.{StepRecord}
+use Rattle.ledger_kept.specs.LedgerSpec.Records.{AreSteps}
 use Rattle.ledger_views.proofs.StartLemmas.{start_so, of_start, of_none}
 use Rattle.ledger_views.proofs.records.steps_of.Goals as goal
 

@@ -1,7 +1,7 @@
 use Rattle.std.proofs.Common.{◌≡◌, ℤ, ◌∙◌, ap, to_z, of_z, w64, arith}
 use Rattle.std.proofs.lemmas.Int.{ints}
 use Rattle.std.proofs.lemmas.Result.{IfOk-weaker}
-use Rattle.ledger_spec.specs.Replay.{world}
+use Rattle.ledger_kept.specs.LedgerSpec.Replay.{world}
 use Rattle.ledger_views.specs.ViewsSupport.{look_in}
 use Rattle.ledger_views.proofs.LookLemmas.{same_look}
 use Rattle.ledger_views.proofs.views.show.Goals as goal

@@ -1,6 +1,6 @@
 use Rattle.std.proofs.Common.{rules, to_z, of_z, w64, ◌≡◌, refl, sym, ap, ◌∙◌, subst, arith, ℕ, ◌+◌, ◌≤◌, List, drop}
 use Rattle.std.specs.Prelude.{IfOk}
-use Rattle.nodes.specs.declared.cont.Cont.{Cont}
+use Rattle.table.specs.Nodes.declared.cont.Cont.{Cont}
 use Rattle.table_builder.specs.Putting.{put_cont}
 use Rattle.contract.specs.declared.tree.Case.{Case}
 use Rattle.contract.specs.Tree.{contract_tree}
@@ -8,7 +8,7 @@ use Rattle.lowering.proofs.Trees.{high-first, conts-first, others-first}
 use Rattle.lowering.proofs.Cases.{Progress, progress-start, progress-at, progress-step, progress-end}
 use Rattle.lowering.proofs.Trees.{is-Pay, is-Let, is-Assert, is-If, is-When}
 use Rattle.lowering.proofs.Codes.{next-Pay, next-Let, next-Assert, next-then, next-otherwise, next-When, next-case, fits-Pay, fits-Let, fits-Assert, fits-If, fits-When, fits-case, codes-Pay, codes-Let, codes-Assert, codes-If, codes-When, codes-case}
-use Rattle.nodes.specs.declared.cont_node.ContNode.{ContNode}
+use Rattle.table.specs.Nodes.declared.cont_node.ContNode.{ContNode}
 use Rattle.table.specs.Heights.{contract_height}
 use Rattle.table.specs.Flat.{Flat, AllStand, trees, cont_parts, cont_of}
 use Rattle.lowering.proofs.contracts.«+add_contract».Goals as goal

@@ -2,7 +2,7 @@ use Rattle.std.proofs.Common.{◌≡◌, true, subst}
 use Rattle.std.proofs.lemmas.List.{take_all}
 use Rattle.std.proofs.lemmas.List.Elements.{All-more}
 use Rattle.contract.specs.declared.transaction.Transaction.{Transaction}
-use Rattle.contract_json.specs.WrittenInput.{transaction_fits}
+use Rattle.marlowe_run.specs.ContractJson.WrittenInput.{transaction_fits}
 use Rattle.analysis_lines.specs.ToldLines.{RunFits}
 use Rattle.marlowe_analyse.proofs.runs.has_all_numbers.Goals as goal
 

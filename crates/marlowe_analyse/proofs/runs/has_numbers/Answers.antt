@@ -1,6 +1,6 @@
 use Rattle.std.proofs.Common.{refl, sym, ◌∙◌}
-use Rattle.json_write_contracts.proofs.ListedLaws.{all-more, all-over}
-use Rattle.contract_json.specs.WrittenInput.{input_fits}
+use Rattle.marlowe_run.proofs.FromJsonWriteContracts.ListedLaws.{all-more, all-over}
+use Rattle.marlowe_run.specs.ContractJson.WrittenInput.{input_fits}
 use Rattle.marlowe_analyse.proofs.runs.has_numbers.Goals as goal
 
 pub loop-input-preserved : goal.loop-input-preserved

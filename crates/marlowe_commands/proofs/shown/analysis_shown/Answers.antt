@@ -1,6 +1,6 @@
 use Rattle.std.proofs.Common.{option_map, subst}
-use Rattle.refusal_reasons.specs.Reasons.{Tells}
-use Rattle.refusal_reasons.specs.declared.source.Behind.TheVariants as behind
+use Rattle.serve.specs.RefusalReasons.Reasons.{Tells}
+use Rattle.serve.specs.RefusalReasons.declared.source.Behind.TheVariants as behind
 use Rattle.marlowe_commands.specs.Streams.{saying_of}
 use Rattle.marlowe_commands.specs.Tasks.{SaysAnalysis}
 use Rattle.marlowe_commands.proofs.ShownLemmas.{shown_by}

@@ -1,7 +1,7 @@
 use Rattle.std.proofs.Common.{◌≡◌, ◌⊎◌, [], map, option_map, subst}
-use Rattle.marlowe_next.specs.Question.{reached}
-use Rattle.refusal_reasons.specs.Reasons.{Tells}
-use Rattle.refusal_reasons.specs.declared.source.Behind.TheVariants as behind
+use Rattle.serve.specs.MarloweNext.Question.{reached}
+use Rattle.serve.specs.RefusalReasons.Reasons.{Tells}
+use Rattle.serve.specs.RefusalReasons.declared.source.Behind.TheVariants as behind
 use Rattle.marlowe_commands.specs.Streams.{saying_of, spelling_of}
 use Rattle.marlowe_commands.specs.Tasks.{SaysNext, over_of}
 use Rattle.marlowe_commands.proofs.ShownLemmas.{shown_by}

@@ -1,8 +1,8 @@
 use Rattle.std.proofs.Common.{map}
-use Rattle.json_read_names.specs.ReadsText.{of_text_within}
-use Rattle.json_read_scenarios.specs.ReadsScenario as reads
+use Rattle.marlowe_play.specs.JsonReadNames.ReadsText.{of_text_within}
+use Rattle.marlowe_play.specs.JsonReadScenarios.ReadsScenario as reads
 use Rattle.marlowe_play.specs.Played.{wanted}
-use Rattle.refusal_reasons.specs.Reasons.{TellsScenario}
+use Rattle.serve.specs.RefusalReasons.Reasons.{TellsScenario}
 use Rattle.marlowe_commands.specs.Streams.{saying_of}
 use Rattle.marlowe_commands.specs.Tasks.{SaysPlay}
 use Rattle.marlowe_commands.proofs.ShownLemmas.{shown_by}

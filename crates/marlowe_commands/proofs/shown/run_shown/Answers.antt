@@ -1,7 +1,7 @@
 use Rattle.std.proofs.Common.{◌≡◌, Some}
 use Rattle.marlowe_run.specs.Run.{run_within}
-use Rattle.refusal_reasons.specs.Reasons.{Tells}
-use Rattle.refusal_reasons.specs.declared.source.Behind.TheVariants as behind
+use Rattle.serve.specs.RefusalReasons.Reasons.{Tells}
+use Rattle.serve.specs.RefusalReasons.declared.source.Behind.TheVariants as behind
 use Rattle.marlowe_commands.specs.Streams.{saying_of}
 use Rattle.marlowe_commands.specs.Tasks.{run_said}
 use Rattle.marlowe_commands.proofs.ShownLemmas.{shown_by}

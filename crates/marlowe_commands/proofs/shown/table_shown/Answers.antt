@@ -1,6 +1,6 @@
 use Rattle.std.proofs.Common.{◌≡◌}
 use Rattle.marlowe_run.specs.TableText.{table_text_within}
-use Rattle.refusal_reasons.specs.Reasons.{TellsOfTable}
+use Rattle.serve.specs.RefusalReasons.Reasons.{TellsOfTable}
 use Rattle.marlowe_commands.specs.Streams.{saying_of}
 use Rattle.marlowe_commands.specs.Tasks.{table_said}
 use Rattle.marlowe_commands.proofs.ShownLemmas.{shown_by}

@@ -1,7 +1,7 @@
 use Rattle.std.proofs.Common.{◌≡◌, map, option_map, subst}
-use Rattle.marlowe_trace.specs.Traced.{trace_text}
-use Rattle.refusal_reasons.specs.Reasons.{Tells}
-use Rattle.refusal_reasons.specs.declared.source.Behind.TheVariants as behind
+use Rattle.serve.specs.MarloweTrace.Traced.{trace_text}
+use Rattle.serve.specs.RefusalReasons.Reasons.{Tells}
+use Rattle.serve.specs.RefusalReasons.declared.source.Behind.TheVariants as behind
 use Rattle.marlowe_commands.specs.Streams.{saying_of}
 use Rattle.marlowe_commands.specs.Tasks.{trace_said}
 use Rattle.marlowe_commands.proofs.ShownLemmas.{shown_by}

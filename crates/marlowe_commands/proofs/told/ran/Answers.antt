@@ -1,7 +1,7 @@
 use Rattle.std.proofs.Common.{Some}
 use Rattle.marlowe_run.specs.Run.{run_within}
-use Rattle.refusal_reasons.specs.Reasons.{Tells}
-use Rattle.refusal_reasons.specs.declared.source.Behind.TheVariants as behind
+use Rattle.serve.specs.RefusalReasons.Reasons.{Tells}
+use Rattle.serve.specs.RefusalReasons.declared.source.Behind.TheVariants as behind
 use Rattle.marlowe_commands.specs.Streams.{streams_of}
 use Rattle.marlowe_commands.proofs.ShownLemmas.{run_shows}
 use Rattle.marlowe_commands.proofs.told.ran.Goals as goal

@@ -1,5 +1,5 @@
 use Rattle.marlowe_run.specs.TableText.{table_text_within}
-use Rattle.refusal_reasons.specs.Reasons.{TellsOfTable}
+use Rattle.serve.specs.RefusalReasons.Reasons.{TellsOfTable}
 use Rattle.marlowe_commands.specs.Streams.{streams_of}
 use Rattle.marlowe_commands.proofs.ShownLemmas.{table_shows}
 use Rattle.marlowe_commands.proofs.told.tabled.Goals as goal

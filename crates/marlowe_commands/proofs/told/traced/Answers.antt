@@ -1,7 +1,7 @@
 use Rattle.std.proofs.Common.{map, option_map}
-use Rattle.marlowe_trace.specs.Traced.{trace_text}
-use Rattle.refusal_reasons.specs.Reasons.{Tells}
-use Rattle.refusal_reasons.specs.declared.source.Behind.TheVariants as behind
+use Rattle.serve.specs.MarloweTrace.Traced.{trace_text}
+use Rattle.serve.specs.RefusalReasons.Reasons.{Tells}
+use Rattle.serve.specs.RefusalReasons.declared.source.Behind.TheVariants as behind
 use Rattle.marlowe_commands.specs.Streams.{streams_of}
 use Rattle.marlowe_commands.proofs.ShownLemmas.{trace_shows}
 use Rattle.marlowe_commands.proofs.told.traced.Goals as goal

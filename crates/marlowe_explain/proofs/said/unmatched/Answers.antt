@@ -2,7 +2,7 @@ use Rattle.std.proofs.Common.{List, ℕ, length, refl, ap, ◌∙◌}
 use Rattle.std.proofs.lemmas.Option.{slice_get_read}
 use Rattle.std.proofs.lemmas.Result.{IfOk-weaker}
 use Rattle.contract.specs.Tree.{contract_tree}
-use Rattle.analysis_spec.specs.declared.path.PathStep.{PathStep}
+use Rattle.marlowe_next.specs.AnalysisSpec.declared.path.PathStep.{PathStep}
 use Rattle.marlowe_explain.specs.Spelled.{unmatched_told}
 use Rattle.marlowe_explain.proofs.said.unmatched.Goals as goal
 

@@ -1,7 +1,7 @@
 use Rattle.std.proofs.Common.{List, ℕ, ap, ◌∙◌}
 use Rattle.std.proofs.lemmas.Result.{IfOk-weaker}
 use Rattle.contract.specs.Tree.{contract_tree}
-use Rattle.analysis_spec.specs.declared.path.PathStep.{PathStep}
+use Rattle.marlowe_next.specs.AnalysisSpec.declared.path.PathStep.{PathStep}
 use Rattle.marlowe_explain.specs.Spelled.{useless_told}
 use Rattle.marlowe_explain.proofs.said.useless.Goals as goal
 

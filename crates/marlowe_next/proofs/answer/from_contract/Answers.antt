@@ -1,11 +1,11 @@
 use Rattle.std.proofs.Common.{refl, ap}
 use Rattle.std.specs.Prelude.{map, option_map}
 use Rattle.contract.specs.Tree.{contract_tree}
-use Rattle.json_read_names.specs.declared.fault.JsonFault.TheVariants as json
-use Rattle.json_read_names.specs.ReadsText.{of_text_within}
-use Rattle.json_read_contracts.specs.ReadsContract.{contract}
-use Rattle.marlowe_refusals.specs.Faults.{contract_fault}
-use Rattle.marlowe_refusals.specs.declared.trace_fault.TraceFault.TheVariants as trace
+use Rattle.marlowe_run.specs.JsonReadNames.declared.fault.JsonFault.TheVariants as json
+use Rattle.marlowe_run.specs.JsonReadNames.ReadsText.{of_text_within}
+use Rattle.marlowe_run.specs.JsonReadContracts.ReadsContract.{contract}
+use Rattle.marlowe_run.specs.MarloweRefusals.Faults.{contract_fault}
+use Rattle.marlowe_run.specs.MarloweRefusals.declared.trace_fault.TraceFault.TheVariants as trace
 use Rattle.marlowe_next.specs.Question.{reached_from}
 use Rattle.marlowe_next.proofs.AnswerLemmas.{reads_on, reads_badly}
 use Rattle.marlowe_next.proofs.answer.from_contract.Goals as goal

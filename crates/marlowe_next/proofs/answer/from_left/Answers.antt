@@ -4,8 +4,8 @@ use Rattle.std.specs.declared.vec.Vec.{Vec}
 use Rattle.std.specs.declared.alloc.Global.{Global}
 use Rattle.std.specs.declared.alloc.AllocError.{AllocError}
 use Rattle.contract.specs.Tree.{contract_tree}
-use Rattle.semantics.specs.Walk.{standing}
-use Rattle.marlowe_refusals.specs.declared.trace_fault.TraceFault.TheVariants as trace
+use Rattle.marlowe_run.specs.Semantics.Walk.{standing}
+use Rattle.marlowe_run.specs.MarloweRefusals.declared.trace_fault.TraceFault.TheVariants as trace
 use Rattle.marlowe_next.specs.Question.{reached_at}
 use Rattle.marlowe_next.specs.AnswerSupport.{TellsSettled}
 use Rattle.marlowe_next.proofs.AnswerLemmas.{left_answer, left_badly}

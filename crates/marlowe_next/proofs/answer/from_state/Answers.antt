@@ -1,9 +1,9 @@
 use Rattle.std.proofs.Common.{refl, ap}
 use Rattle.std.specs.Prelude.{map, option_map}
 use Rattle.contract.specs.Tree.{contract_tree}
-use Rattle.json_read_names.specs.declared.fault.JsonFault.TheVariants as json
-use Rattle.marlowe_refusals.specs.Faults.{state_fault}
-use Rattle.marlowe_refusals.specs.declared.trace_fault.TraceFault.TheVariants as trace
+use Rattle.marlowe_run.specs.JsonReadNames.declared.fault.JsonFault.TheVariants as json
+use Rattle.marlowe_run.specs.MarloweRefusals.Faults.{state_fault}
+use Rattle.marlowe_run.specs.MarloweRefusals.declared.trace_fault.TraceFault.TheVariants as trace
 use Rattle.marlowe_run.specs.Start.{start_of}
 use Rattle.marlowe_next.specs.Question.{reached_with}
 use Rattle.marlowe_next.proofs.AnswerLemmas.{reads_on, reads_badly}

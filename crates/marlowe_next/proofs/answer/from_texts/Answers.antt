@@ -3,7 +3,7 @@ use Rattle.std.specs.Prelude.{map}
 use Rattle.contract.specs.Tree.{contract_tree}
 use Rattle.json_read_transactions.specs.declared.fault.ReadFault.TheVariants as reading
 use Rattle.json_read_transactions.specs.ReadsTransactions.{transactions_of}
-use Rattle.marlowe_refusals.specs.TraceFaults.{texts_fault}
+use Rattle.marlowe_run.specs.MarloweRefusals.TraceFaults.{texts_fault}
 use Rattle.contract.specs.declared.transaction.Transaction.{Transaction}
 use Rattle.marlowe_next.specs.Question.{reached_by}
 use Rattle.marlowe_next.specs.AnswerSupport.{Answers}

@@ -1,5 +1,5 @@
 use Rattle.contract.specs.Tree.{contract_tree}
-use Rattle.semantics.specs.Walk.{standing}
+use Rattle.marlowe_run.specs.Semantics.Walk.{standing}
 use Rattle.marlowe_next.proofs.AnswerLemmas.{leads_on, leads_badly, first_refused}
 use Rattle.marlowe_next.proofs.answer.from_transactions.Goals as goal
 

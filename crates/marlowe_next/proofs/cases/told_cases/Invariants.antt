@@ -1,8 +1,8 @@
 use Rattle.std.proofs.Common.{◌≡◌, take}
 use Rattle.contract.specs.declared.interval.Interval.{Interval}
 use Rattle.contract.specs.Tree.{ContractTree}
-use Rattle.states.specs.States.{StateMaps}
-use Rattle.evaluation.specs.Path.{waits_for}
+use Rattle.contract.specs.States.States.{StateMaps}
+use Rattle.marlowe_run.specs.Semantics.Evaluation.Path.{waits_for}
 use Rattle.marlowe_next.specs.Applicable.{refusal, applicable_from}
 use Rattle.next_lines.specs.Seen.{seen_cases}
 use Rattle.marlowe_next.specs.AnswerSupport.{SettlesTo}

@@ -1,8 +1,8 @@
 use Rattle.std.proofs.Common.{◌≡◌, List, [], sym, ap, ◌∙◌, map}
 use Rattle.std.proofs.lemmas.Result.{IfOk-weaker}
 use Rattle.contract.specs.Tree.{contract_tree}
-use Rattle.semantics.specs.Walk.{standing, answer_of}
-use Rattle.semantics.specs.Computed.{computed}
+use Rattle.marlowe_run.specs.Semantics.Walk.{standing, answer_of}
+use Rattle.marlowe_run.specs.Semantics.Computed.{computed}
 use Rattle.next_inputs.specs.Opening.{opening}
 use Rattle.analysis_spec.specs.declared.path.PathStep.{PathStep}
 use Rattle.analysis_spec.specs.Marks.{led}

@@ -2,11 +2,11 @@ use Rattle.std.proofs.Common.{◌≡◌, ◌∙◌, ℕ, ◌+◌, ◌<◌, List,
 use Rattle.std.proofs.lemmas.List.{take_more}
 use Rattle.std.proofs.lemmas.Option.{slice_get_read}
 use Rattle.std.specs.Prelude.{slice_get, Some}
-use Rattle.eutxo_types.specs.declared.output_ref.OutputRef.{OutputRef}
-use Rattle.eutxo_types.specs.declared.output_ref.OutputRef.TheVariants.{Genesis}
-use Rattle.roles.specs.declared.published.Published.{Published}
-use Rattle.plans.specs.declared.scenario.NamedThread.{NamedThread}
-use Rattle.play_lines.specs.PlayLines.{ThreadLine}
+use Rattle.play_endings.specs.EutxoTypes.declared.output_ref.OutputRef.{OutputRef}
+use Rattle.play_endings.specs.EutxoTypes.declared.output_ref.OutputRef.TheVariants.{Genesis}
+use Rattle.play_endings.specs.Roles.declared.published.Published.{Published}
+use Rattle.play_endings.specs.Plans.declared.scenario.NamedThread.{NamedThread}
+use Rattle.play_setup.specs.PlayLines.PlayLines.{ThreadLine}
 use Rattle.marlowe_play.specs.PlayedSupport.{AreLines}
 use Rattle.marlowe_play.proofs.PlayingLemmas.{one_more_line}
 use Rattle.marlowe_play.proofs.lines.lines_of.Goals as goal

@@ -1,6 +1,6 @@
 use Rattle.std.proofs.Common.{◌∙◌, List, map, ap}
-use Rattle.eutxo_types.specs.declared.output_ref.OutputRef.{OutputRef}
-use Rattle.plans.specs.declared.scenario.Scenario.{Scenario}
+use Rattle.play_endings.specs.EutxoTypes.declared.output_ref.OutputRef.{OutputRef}
+use Rattle.play_endings.specs.Plans.declared.scenario.Scenario.{Scenario}
 use Rattle.play_setup.specs.SetUp.{currencies, plan_on}
 use Rattle.marlowe_play.proofs.PlayingLemmas.{were_played}
 use Rattle.marlowe_play.proofs.playing.play_all.Goals as goal

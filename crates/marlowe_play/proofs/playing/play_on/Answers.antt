@@ -3,13 +3,13 @@ use Rattle.std.proofs.lemmas.List.{length-map}
 use Rattle.std.specs.Prelude.{Vec}
 use Rattle.std.specs.Global.{Global}
 use Rattle.std.specs.List.{All}
-use Rattle.eutxo_types.specs.declared.output_ref.OutputRef.{OutputRef}
-use Rattle.roles.specs.declared.published.Published.{Published}
-use Rattle.plans.specs.declared.scenario.NamedThread.{NamedThread}
-use Rattle.plans.specs.declared.scenario.Scenario.{Scenario}
+use Rattle.play_endings.specs.EutxoTypes.declared.output_ref.OutputRef.{OutputRef}
+use Rattle.play_endings.specs.Roles.declared.published.Published.{Published}
+use Rattle.play_endings.specs.Plans.declared.scenario.NamedThread.{NamedThread}
+use Rattle.play_endings.specs.Plans.declared.scenario.Scenario.{Scenario}
 use Rattle.parties.specs.declared.left_out.LeftOut.{LeftOut}
-use Rattle.hub.specs.Session.{Opened}
-use Rattle.ledger_spec.specs.Replay.{Course}
+use Rattle.parties.specs.Hub.Session.{Opened}
+use Rattle.play_setup.specs.LedgerSpec.Replay.{Course}
 use Rattle.play_setup.specs.SetUp.{object_of}
 use Rattle.marlowe_play.specs.Played.{IsTold, wanted, well_by}
 use Rattle.marlowe_play.specs.PlayedSupport.{AreLines}

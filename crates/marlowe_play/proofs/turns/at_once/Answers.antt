@@ -5,7 +5,7 @@ use denote.Param.Send.{sendable, param_send, arg_send}
 use Rattle.std.proofs.Crossing.{crosses}
 use Rattle.std.proofs.result.Result.TheSendSync as result
 use Rattle.std.proofs.alloc.AllocError.TheSendSync as refused
-use Rattle.hub.proofs.Crossing.{seats_are_sent}
+use Rattle.parties.proofs.FromHub.Crossing.{seats_are_sent}
 use Rattle.parties.proofs.left_out.LeftOut.TheSendSync as left
 use Rattle.marlowe_play.proofs.Crossing.{turns_are_sent}
 use Rattle.marlowe_play.proofs.PlayingLemmas.{ok_both, zip_from}

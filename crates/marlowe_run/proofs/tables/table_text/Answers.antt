@@ -1,7 +1,7 @@
 use Rattle.std.proofs.Common.{ℕ, List, Result, subst}
 use Rattle.std.specs.declared.vec.Vec.{Vec}
 use Rattle.std.specs.declared.alloc.Global.{Global}
-use Rattle.collections.specs.Answers.{AsideBy}
+use Rattle.contract.specs.Collections.Answers.{AsideBy}
 use Rattle.marlowe_refusals.specs.declared.table_fault.TableFault.{TableFault}
 use Rattle.marlowe_refusals.specs.declared.table_fault.TableFault.TheVariants as tables
 use Rattle.marlowe_run.proofs.WithinLaws.{tables-127}

@@ -1,7 +1,7 @@
 use Rattle.std.proofs.Common.{ℕ, true, List, Result, subst}
 use Rattle.std.specs.declared.vec.Vec.{Vec}
 use Rattle.std.specs.declared.alloc.Global.{Global}
-use Rattle.collections.specs.Answers.{AsideBy}
+use Rattle.contract.specs.Collections.Answers.{AsideBy}
 use Rattle.marlowe_refusals.specs.declared.fault.RunFault.{RunFault}
 use Rattle.marlowe_refusals.specs.declared.fault.RunFault.TheVariants as run
 use Rattle.marlowe_run.proofs.WithinLaws.{runs-127}

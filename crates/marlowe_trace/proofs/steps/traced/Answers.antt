@@ -1,6 +1,6 @@
 use Rattle.std.proofs.Common.{◌≡◌, ℕ, ◌+◌, ◌==◌, ◌||◌, not, cond, Bool, List, [], ◌++◌, length, drop, sym, ap, ◌∙◌}
 use Rattle.contract.specs.Tree.{contract_tree}
-use Rattle.semantics.specs.Walk.{standing}
+use Rattle.marlowe_run.specs.Semantics.Walk.{standing}
 use Rattle.analysis_spec.specs.Runs.{walk_from}
 use Rattle.trace.specs.Traces.{walks}
 use Rattle.marlowe_trace.specs.Traced.{line_of, lines_of}

@@ -1,7 +1,7 @@
 use Rattle.std.proofs.Common.{◌≡◌, true, ◌++◌, drop}
 use Rattle.contract.specs.Tree.{contract_tree}
-use Rattle.json_write_contracts.specs.WrittenContract.{contract_fits}
-use Rattle.semantics.specs.Walk.{standing}
+use Rattle.marlowe_run.specs.JsonWriteContracts.WrittenContract.{contract_fits}
+use Rattle.marlowe_run.specs.Semantics.Walk.{standing}
 use Rattle.trace.specs.Traces.{walks, left_by}
 use Rattle.marlowe_trace.specs.Traced.{StatesReturn, lines_of}
 use Rattle.marlowe_trace.proofs.steps.traced.Given as goal

@@ -3,7 +3,7 @@ use Rattle.std.proofs.lemmas.Result.{IfOk-weaker}
 use Rattle.std.specs.Result.{result_err}
 use Rattle.contract.specs.declared.fault.SemFault.{SemFault}
 use Rattle.contract.specs.declared.fault.SemFault.TheVariants.{Memory}
-use Rattle.evaluation.specs.Parts.{case_tree_of}
+use Rattle.semantics.specs.Evaluation.Parts.{case_tree_of}
 use Rattle.semantics.specs.Walk.{answer_of}
 use Rattle.next_inputs.specs.Opening.{opening}
 use Rattle.next_inputs.specs.Behind.{IsRefusedBehind}

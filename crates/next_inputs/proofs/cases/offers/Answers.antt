@@ -1,5 +1,5 @@
 use Rattle.std.proofs.Common.{List, sym, subst, ◌∙◌, ap}
-use Rattle.evaluation.specs.Path.{waits_for}
+use Rattle.semantics.specs.Evaluation.Path.{waits_for}
 use Rattle.claims.specs.Claims.{owner}
 use Rattle.next_inputs.specs.declared.offer.Offer.{Offer}
 use Rattle.next_inputs.specs.Offers.{AreOffers}

@@ -1,5 +1,5 @@
-use Rattle.evaluation.specs.Path.{waits_for}
-use Rattle.evaluation.specs.Parts.{case_tree_of}
+use Rattle.semantics.specs.Evaluation.Path.{waits_for}
+use Rattle.semantics.specs.Evaluation.Parts.{case_tree_of}
 use Rattle.next_inputs.proofs.Shares.{offers_step}
 use Rattle.next_inputs.proofs.cases.offers_of.Goals as goal
 

@@ -1,5 +1,5 @@
 use Rattle.std.proofs.Common.{◌≡◌, length, take}
-use Rattle.evaluation.specs.Path.{waits_for}
+use Rattle.semantics.specs.Evaluation.Path.{waits_for}
 use Rattle.next_inputs.specs.Claiming.{offers_of}
 use Rattle.next_inputs.proofs.cases.offers_of.Given as goal
 

@@ -1,6 +1,6 @@
 use Rattle.std.proofs.Common.{arith}
-use Rattle.evaluation.specs.Path.{waits_for}
-use Rattle.evaluation.specs.Parts.{case_tree_of}
+use Rattle.semantics.specs.Evaluation.Path.{waits_for}
+use Rattle.semantics.specs.Evaluation.Parts.{case_tree_of}
 use Rattle.next_inputs.specs.Claiming.{lane_of}
 use Rattle.next_inputs.proofs.Stopping.{claims_none, claims_next, claims_whole, lane_way}
 use Rattle.next_inputs.proofs.claiming.claims_of.Goals as goal

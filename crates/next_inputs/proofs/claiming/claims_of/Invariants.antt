@@ -1,5 +1,5 @@
 use Rattle.std.proofs.Common.{take}
-use Rattle.evaluation.specs.Path.{waits_for}
+use Rattle.semantics.specs.Evaluation.Path.{waits_for}
 use Rattle.next_inputs.specs.Claiming.{AreClaims}
 use Rattle.next_inputs.proofs.claiming.claims_of.Given as goal
 

@@ -1,5 +1,5 @@
 use Rattle.std.proofs.Common.{pos, sym, append-nil, arith}
-use Rattle.names.specs.declared.bound.Bound.{Bound}
+use Rattle.contract.specs.Names.declared.bound.Bound.{Bound}
 use Rattle.next_inputs.proofs.Shares.{claims_bound, claims_all}
 use Rattle.next_inputs.proofs.claiming.put_claims.Goals as goal
 

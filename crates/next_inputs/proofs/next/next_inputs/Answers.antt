@@ -1,6 +1,6 @@
 use Rattle.std.proofs.Common.{◌≡◌, ap, sym, subst, ◌∙◌}
 use Rattle.contract.specs.declared.interval.Interval.{Interval}
-use Rattle.evaluation.specs.Path.{waits_for}
+use Rattle.semantics.specs.Evaluation.Path.{waits_for}
 use Rattle.semantics.specs.Walk.{standing}
 use Rattle.semantics.specs.Transaction.{trimmed}
 use Rattle.next_inputs.specs.Offers.{AreOffers}

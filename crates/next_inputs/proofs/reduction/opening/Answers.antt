@@ -1,6 +1,6 @@
 use Rattle.std.proofs.Common.{List, [], ap, sym, subst, ◌∙◌}
 use Rattle.contract.specs.declared.fault.SemFault.TheVariants.{Useless}
-use Rattle.evaluation.specs.Path.{Turn}
+use Rattle.semantics.specs.Evaluation.Path.{Turn}
 use Rattle.semantics.specs.Walk.{Walk, standing, answer_of}
 use Rattle.semantics.specs.Computed.{computed}
 use Rattle.next_inputs.proofs.OneInput.{opened_ok, opened_idle}

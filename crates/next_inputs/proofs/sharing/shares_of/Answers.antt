@@ -1,6 +1,6 @@
 use Rattle.std.proofs.Common.{◌<◌, length, drop, ap, ◌∙◌, arith}
 use Rattle.std.proofs.lemmas.List.{drop_all, length-set}
-use Rattle.names.specs.declared.bound.Bound.{Bound}
+use Rattle.contract.specs.Names.declared.bound.Bound.{Bound}
 use Rattle.next_inputs.specs.Claiming.{put}
 use Rattle.next_inputs.proofs.Shares.{shares_begin, shares_end, shares_step, by_within}
 use Rattle.next_inputs.proofs.sharing.shares_of.Goals as goal

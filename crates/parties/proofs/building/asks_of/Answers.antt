@@ -1,7 +1,7 @@
 use Rattle.std.proofs.Common.{◌≡◌, List, map, IfOk, ap, sym, subst, ◌∙◌}
 use Rattle.contract.specs.declared.input.Input.{Input}
-use Rattle.eutxo_types.specs.declared.output_ref.OutputRef.{OutputRef}
-use Rattle.ledger.specs.declared.ask.Ask.{Ask}
+use Rattle.hub.specs.EutxoTypes.declared.output_ref.OutputRef.{OutputRef}
+use Rattle.hub.specs.Ledger.declared.ask.Ask.{Ask}
 use Rattle.parties.specs.Plays.{PlayedIntent, step_ask}
 use Rattle.parties.specs.Plays.{asks_of}
 use Rattle.parties.proofs.building.asks_of.Goals as goal

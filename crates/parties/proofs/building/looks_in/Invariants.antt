@@ -1,5 +1,5 @@
 use Rattle.std.proofs.Common.{◌≡◌, map, take}
-use Rattle.ledger.specs.declared.call.Reply.TheVariants as replies
+use Rattle.hub.specs.Ledger.declared.call.Reply.TheVariants as replies
 use Rattle.parties.specs.PlaysSupport.{replies_of}
 use Rattle.parties.proofs.building.looks_in.Given as goal
 

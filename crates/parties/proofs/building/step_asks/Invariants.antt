@@ -1,6 +1,6 @@
 use Rattle.std.proofs.Common.{◌≡◌, List, map, take}
 use Rattle.contract.specs.declared.input.Input.{Input}
-use Rattle.eutxo_types.specs.declared.output_ref.OutputRef.{OutputRef}
+use Rattle.hub.specs.EutxoTypes.declared.output_ref.OutputRef.{OutputRef}
 use Rattle.parties.specs.Plays.{step_ask}
 use Rattle.parties.proofs.building.step_asks.Given as goal
 

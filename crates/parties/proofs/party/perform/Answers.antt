@@ -1,6 +1,6 @@
 use Rattle.std.proofs.Common.{rules, subst, ℤ}
 use Rattle.std.proofs.lemmas.Int.{to_z-of_z}
-use Rattle.ledger.specs.declared.call.Call.TheVariants as on
+use Rattle.hub.specs.Ledger.declared.call.Call.TheVariants as on
 use Rattle.parties.specs.PlaysSupport.{AtMostNoted}
 use Rattle.parties.proofs.PlaysLemmas.{noted_at_most, round_of_plan, advance_of_plan}
 use Rattle.parties.proofs.party.perform.Goals as goal

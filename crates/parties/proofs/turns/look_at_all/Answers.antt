@@ -1,8 +1,8 @@
 use Rattle.std.proofs.Common.{rules, ◌≡◌, ℕ, ◌<◌, ◌≤◌, List, length, take, get_or, refl, subst, ◌∙◌}
 use Rattle.std.proofs.lemmas.List.{take_more, take_all}
 use Rattle.std.specs.List.{Contains}
-use Rattle.ledger.specs.declared.ask.Ask.{Ask}
-use Rattle.ledger.specs.declared.call.Call.TheVariants as on
+use Rattle.hub.specs.Ledger.declared.ask.Ask.{Ask}
+use Rattle.hub.specs.Ledger.declared.call.Call.TheVariants as on
 use Rattle.parties.specs.Plays.{asks_of}
 use Rattle.parties.specs.PlaysSupport.{Went, AtMostNoted, WasNoted, WasShown}
 use Rattle.parties.proofs.PlaysLemmas.{went_same, went_more, shown_none, shown_more, shown_at_most, no_fewer, on_err_always}

@@ -1,6 +1,6 @@
 use Rattle.std.proofs.Common.{arith, ◌≡◌, ℕ, ◌-◌, IfSome, List, length, take, drop, Option, Result, sym, subst}
 use Rattle.std.specs.Prelude.{MatchResult}
-use Rattle.builder_spec.specs.declared.fault.BuildFault.{BuildFault}
+use Rattle.hub.specs.LedgerSpec.BuilderSpec.declared.fault.BuildFault.{BuildFault}
 use Rattle.hub.specs.Seats.{ReceiptRecord}
 use Rattle.parties.specs.declared.acts.Act.{Act}
 use Rattle.parties.specs.PlaysSupport.{AreShown, HandsIn, LeavesOut, call_of, Went}

@@ -1,7 +1,7 @@
 use Rattle.std.proofs.Common.{Option, ◌∙◌, ap, sym}
 use Rattle.std.specs.Map.{lookup}
-use Rattle.eutxo_types.specs.declared.output_ref.OutputRef.{OutputRef}
-use Rattle.eutxo_types.specs.Parts.{same_ref}
+use Rattle.eutxo.specs.EutxoTypes.declared.output_ref.OutputRef.{OutputRef}
+use Rattle.eutxo.specs.EutxoTypes.Parts.{same_ref}
 use Rattle.play_holdings.specs.Holdings.{ends_at}
 use Rattle.play_holdings.specs.SumsSupport.{or_place}
 use Rattle.play_holdings.proofs.EndsLemmas.{put}

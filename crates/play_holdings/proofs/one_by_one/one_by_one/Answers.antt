@@ -1,7 +1,7 @@
 use Rattle.std.proofs.Common.{◌≡◌, ◌++◌, ◌∙◌, ap, sym, subst}
 use Rattle.std.specs.List.{flat_map}
-use Rattle.eutxo_types.specs.declared.output.Output.{Output}
-use Rattle.eutxo_types.specs.declared.output_ref.OutputRef.{OutputRef}
+use Rattle.eutxo.specs.EutxoTypes.declared.output.Output.{Output}
+use Rattle.eutxo.specs.EutxoTypes.declared.output_ref.OutputRef.{OutputRef}
 use Rattle.play_holdings.specs.Holdings.{AllAbove, held_in}
 use Rattle.play_holdings.proofs.TotalLemmas.{above_more}
 use Rattle.play_holdings.proofs.HoldingsLemmas.{rows_next}

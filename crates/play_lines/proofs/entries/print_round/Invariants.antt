@@ -1,5 +1,5 @@
 use Rattle.std.proofs.Common.{◌≡◌, ◌++◌, drop, string_bytes}
-use Rattle.ledger.specs.declared.call.Reply.TheVariants as replies
+use Rattle.builder_spec.specs.Ledger.declared.call.Reply.TheVariants as replies
 use Rattle.play_lines.specs.PlayLines.{tickets_on, reply_text}
 use Rattle.play_lines.proofs.entries.print_round.Given as goal
 

@@ -1,4 +1,4 @@
-use Rattle.semantics.proofs.Matching.{same_tokens}
+use Rattle.builder_spec.proofs.FromSemantics.Matching.{same_tokens}
 use Rattle.play_notes.proofs.lacking.same_token.Goals as goal
 
 pub returns : goal.returns

@@ -1,6 +1,6 @@
 use Rattle.std.proofs.Common.{rules, ◌≡◌, ℕ, ◌<◌, List, length, take, get_or}
 use Rattle.std.proofs.lemmas.List.{take_more}
-use Rattle.plans.specs.declared.scenario.NamedContract.{NamedContract}
+use Rattle.parties.specs.Plans.declared.scenario.NamedContract.{NamedContract}
 use Rattle.play_setup.specs.SetUp.{object_of, publishes}
 use Rattle.play_setup.proofs.SetUpLemmas.{one_more, went_on_next}
 use Rattle.play_setup.proofs.publishing.publish_all.Goals as goal

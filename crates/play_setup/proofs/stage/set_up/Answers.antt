@@ -1,8 +1,8 @@
 use Rattle.std.proofs.Common.{◌≡◌, ◌∙◌, List, map, ap, subst}
-use Rattle.plans.specs.declared.scenario.NamedContract.{NamedContract}
-use Rattle.plans.specs.declared.scenario.NamedThread.{NamedThread}
-use Rattle.plans.specs.declared.scenario.Scenario.{Scenario}
-use Rattle.roles.specs.declared.published.Published.{Published}
+use Rattle.parties.specs.Plans.declared.scenario.NamedContract.{NamedContract}
+use Rattle.parties.specs.Plans.declared.scenario.NamedThread.{NamedThread}
+use Rattle.parties.specs.Plans.declared.scenario.Scenario.{Scenario}
+use Rattle.parties.specs.LedgerSpec.Roles.declared.published.Published.{Published}
 use Rattle.play_setup.specs.SetUp.{object_of, publishes}
 use Rattle.play_setup.specs.SetUpSupport.{WentOn, WereStarted}
 use Rattle.play_setup.proofs.SetUpLemmas.{set_up_is}

@@ -1,7 +1,7 @@
 use Rattle.std.proofs.Common.{rules, ◌≡◌, ℕ, ◌<◌, List, [], ◌∷◌, ◌++◌, length, take, get_or, sym, subst}
 use Rattle.std.proofs.lemmas.List.{take_more}
-use Rattle.eutxo_types.specs.declared.output_ref.OutputRef.{OutputRef}
-use Rattle.plans.specs.declared.scenario.NamedThread.{NamedThread}
+use Rattle.parties.specs.EutxoTypes.declared.output_ref.OutputRef.{OutputRef}
+use Rattle.parties.specs.Plans.declared.scenario.NamedThread.{NamedThread}
 use Rattle.play_setup.specs.SetUpSupport.{WereStarted}
 use Rattle.play_setup.proofs.SetUpLemmas.{none_started, one_more_started}
 use Rattle.play_setup.proofs.starts.start_all.Goals as goal

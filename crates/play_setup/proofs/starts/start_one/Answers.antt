@@ -1,11 +1,11 @@
 use Rattle.std.proofs.Common.{◌≡◌, ◌∙◌, [], ◌∷◌, List, length, refl, sym, subst}
 use Rattle.std.proofs.lemmas.Option.{slice_get_read}
 use Rattle.std.specs.Prelude.{slice_get, Some}
-use Rattle.ledger.specs.declared.call.Call.TheVariants as on
-use Rattle.ledger.specs.declared.call.Reply.{Reply}
-use Rattle.ledger.specs.declared.look.Look.{Look}
-use Rattle.plans.specs.declared.scenario.NamedThread.{NamedThread}
-use Rattle.roles.specs.declared.published.Published.{Published}
+use Rattle.parties.specs.Ledger.declared.call.Call.TheVariants as on
+use Rattle.parties.specs.Ledger.declared.call.Reply.{Reply}
+use Rattle.parties.specs.Ledger.declared.look.Look.{Look}
+use Rattle.parties.specs.Plans.declared.scenario.NamedThread.{NamedThread}
+use Rattle.parties.specs.LedgerSpec.Roles.declared.published.Published.{Published}
 use Rattle.play_setup.specs.SetUp.{key_ask}
 use Rattle.play_setup.specs.SetUpSupport.{WentOn}
 use Rattle.play_setup.proofs.SetUpLemmas.{ok_more, was_started}

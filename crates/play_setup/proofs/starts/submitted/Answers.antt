@@ -1,6 +1,6 @@
 use Rattle.std.proofs.Common.{◌∙◌, ap, sym}
-use Rattle.eutxo_types.specs.declared.output_ref.OutputRef.TheVariants.{Made}
-use Rattle.ledger.specs.declared.call.Call.TheVariants as on
+use Rattle.parties.specs.EutxoTypes.declared.output_ref.OutputRef.TheVariants.{Made}
+use Rattle.parties.specs.Ledger.declared.call.Call.TheVariants as on
 use Rattle.play_setup.proofs.SetUpLemmas.{accepted_is, is_judged, went_on_told}
 use Rattle.play_setup.proofs.starts.submitted.Goals as goal
 

@@ -1,11 +1,11 @@
 use Rattle.std.proofs.Common.{ℕ, List, []}
 use Rattle.contract.specs.Tree.{contract_tree}
-use Rattle.semantics.specs.Walk.{standing}
-use Rattle.json_read_names.specs.ReadsText.{of_text}
-use Rattle.json_read_inputs.specs.ReadsInput.{transaction}
-use Rattle.json_forms.specs.declared.sort.Sort.TheVariants as sorts
-use Rattle.marlowe_refusals.specs.Faults.{transaction_fault}
-use Rattle.marlowe_run.specs.Run.{transaction_text}
+use Rattle.marlowe_explain.specs.Semantics.Walk.{standing}
+use Rattle.explanations.specs.JsonReadNames.ReadsText.{of_text}
+use Rattle.marlowe_explain.specs.JsonReadInputs.ReadsInput.{transaction}
+use Rattle.explanations.specs.JsonForms.declared.sort.Sort.TheVariants as sorts
+use Rattle.marlowe_explain.specs.MarloweRefusals.Faults.{transaction_fault}
+use Rattle.marlowe_explain.specs.MarloweRun.Run.{transaction_text}
 use Rattle.refusal_reasons.specs.Reasons as reasons
 use Rattle.refusal_reasons.proofs.ReasonedLemmas.{look_read, look_told, reasoned_by, reasoned_here}
 use Rattle.refusal_reasons.proofs.reasoned.from_start.Goals as goal

@@ -1,12 +1,12 @@
 use Rattle.std.proofs.Common.{ℕ, List, Some}
-use Rattle.collections.specs.Answers.{◌>>=◌}
+use Rattle.contract.specs.Collections.Answers.{◌>>=◌}
 use Rattle.contract.specs.Tree.{contract_tree}
-use Rattle.semantics.specs.Walk.{standing}
-use Rattle.json_read_names.specs.ReadsText.{of_text}
-use Rattle.json_read_inputs.specs.ReadsInput.{transaction}
-use Rattle.marlowe_refusals.specs.Faults.{state_fault, transaction_fault, read_as}
-use Rattle.marlowe_run.specs.Run.{run_from, transaction_text}
-use Rattle.marlowe_run.specs.Start.{state_reading}
+use Rattle.marlowe_explain.specs.Semantics.Walk.{standing}
+use Rattle.explanations.specs.JsonReadNames.ReadsText.{of_text}
+use Rattle.marlowe_explain.specs.JsonReadInputs.ReadsInput.{transaction}
+use Rattle.marlowe_explain.specs.MarloweRefusals.Faults.{state_fault, transaction_fault, read_as}
+use Rattle.marlowe_explain.specs.MarloweRun.Run.{run_from, transaction_text}
+use Rattle.marlowe_explain.specs.MarloweRun.Start.{state_reading}
 use Rattle.refusal_reasons.specs.declared.source.Behind.TheVariants as behind
 use Rattle.refusal_reasons.specs.Reasons as reasons
 use Rattle.refusal_reasons.proofs.ReasonedLemmas.{look_read, look_told, reasoned_by, reasoned_here}

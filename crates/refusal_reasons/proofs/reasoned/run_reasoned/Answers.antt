@@ -1,11 +1,11 @@
 use Rattle.std.proofs.Common.{ℕ, List, Some}
 use Rattle.contract.specs.Tree.{contract_tree}
 use Rattle.contract.specs.declared.tree.Contract.{Contract}
-use Rattle.json_read_names.specs.ReadsText.{of_text_within}
-use Rattle.json_read_contracts.specs.ReadsContract.{contract}
-use Rattle.marlowe_refusals.specs.Faults.{contract_fault}
-use Rattle.marlowe_run.specs.Run.{run_from, run_within}
-use Rattle.marlowe_run.specs.Start.{state_reading}
+use Rattle.explanations.specs.JsonReadNames.ReadsText.{of_text_within}
+use Rattle.marlowe_explain.specs.JsonReadContracts.ReadsContract.{contract}
+use Rattle.marlowe_explain.specs.MarloweRefusals.Faults.{contract_fault}
+use Rattle.marlowe_explain.specs.MarloweRun.Run.{run_from, run_within}
+use Rattle.marlowe_explain.specs.MarloweRun.Start.{state_reading}
 use Rattle.refusal_reasons.specs.declared.source.Behind.TheVariants as behind
 use Rattle.refusal_reasons.specs.Reasons as reasons
 use Rattle.refusal_reasons.proofs.ReasonedLemmas.{look_read, look_told, reasoned_by, reasoned_here}

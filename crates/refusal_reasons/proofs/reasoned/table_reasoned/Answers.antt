@@ -1,10 +1,10 @@
 use Rattle.std.proofs.Common.{ℕ, List}
 use Rattle.contract.specs.Tree.{contract_tree}
 use Rattle.contract.specs.declared.tree.Contract.{Contract}
-use Rattle.json_read_names.specs.ReadsText.{of_text_within}
-use Rattle.json_read_contracts.specs.ReadsContract.{contract}
-use Rattle.marlowe_refusals.specs.TableFaults.{table_contract_fault}
-use Rattle.marlowe_run.specs.TableText.{printed_table, table_text_within}
+use Rattle.explanations.specs.JsonReadNames.ReadsText.{of_text_within}
+use Rattle.marlowe_explain.specs.JsonReadContracts.ReadsContract.{contract}
+use Rattle.marlowe_explain.specs.MarloweRefusals.TableFaults.{table_contract_fault}
+use Rattle.marlowe_explain.specs.MarloweRun.TableText.{printed_table, table_text_within}
 use Rattle.refusal_reasons.specs.Reasons as reasons
 use Rattle.refusal_reasons.proofs.ReasonedLemmas.{look_read, look_told, reasoned_by, reasoned_here}
 use Rattle.refusal_reasons.proofs.reasoned.table_reasoned.Goals as goal

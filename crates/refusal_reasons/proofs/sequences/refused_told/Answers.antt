@@ -1,5 +1,5 @@
 use Rattle.contract.specs.Tree.{contract_tree}
-use Rattle.semantics.specs.Walk.{standing}
+use Rattle.marlowe_explain.specs.Semantics.Walk.{standing}
 use Rattle.refusal_reasons.proofs.SequenceLemmas.{refused_by}
 use Rattle.refusal_reasons.proofs.sequences.refused_told.Goals as goal
 

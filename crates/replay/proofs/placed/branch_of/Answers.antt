@@ -1,5 +1,5 @@
 use Rattle.std.proofs.Common.{sym, ap, ◌∙◌}
-use Rattle.evaluation.proofs.Numbers.{within_ok}
+use Rattle.semantics.proofs.FromEvaluation.Numbers.{within_ok}
 use Rattle.replay.specs.ComingSupport.{branch}
 use Rattle.replay.proofs.placed.branch_of.Goals as goal
 

@@ -1,5 +1,5 @@
 use Rattle.contract.specs.Tree.{contract_tree}
-use Rattle.evaluation.specs.Path.{waits_for}
+use Rattle.semantics.specs.Evaluation.Path.{waits_for}
 use Rattle.replay.proofs.TriesLemmas.{tried_one_more}
 use Rattle.replay.proofs.tries.comes_to.Goals as goal
 

@@ -5,8 +5,8 @@ use Rattle.std.proofs.lemmas.List.{drop_all}
 use mathlib.Core.Bool.{false≢true}
 use Rattle.std.specs.FinMap.{entries_sorted}
 use Rattle.std.specs.FinMap.Entries.{is_sorted}
-use Rattle.names.specs.Orders.{token_cmp}
-use Rattle.states.specs.States as states
+use Rattle.contract.specs.Names.Orders.{token_cmp}
+use Rattle.contract.specs.States.States as states
 use Rattle.roles.specs.LeftSupport.{left_of, IsTaken}
 use Rattle.roles.specs.Sums.{sums_in}
 use Rattle.roles.proofs.LeftLemmas.{all_zero, refused}

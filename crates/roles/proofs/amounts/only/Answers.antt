@@ -1,7 +1,7 @@
 use Rattle.std.proofs.Common.{◌≡◌, ◌∷◌, [], ◌∙◌, ap, rules}
 use Rattle.std.specs.FinMap.{from_sorted}
 use Rattle.std.specs.FinMap.Entries.{put}
-use Rattle.names.specs.Orders.{token_cmp}
+use Rattle.contract.specs.Names.Orders.{token_cmp}
 use Rattle.roles.proofs.SumsLemmas.{only_is}
 use Rattle.roles.proofs.amounts.only.Goals as goal
 

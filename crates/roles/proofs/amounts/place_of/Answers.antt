@@ -1,7 +1,7 @@
 use Rattle.std.proofs.Common.{rules}
 use Rattle.std.proofs.lemmas.Fn.{always_returns_same}
-use Rattle.names.specs.Orders.{token_cmp}
-use Rattle.bundle.proofs.SearchLaws.{searched}
+use Rattle.contract.specs.Names.Orders.{token_cmp}
+use Rattle.eutxo.proofs.FromBundle.SearchLaws.{searched}
 use Rattle.roles.proofs.amounts.place_of.Goals as goal
 
 pub returns : goal.returns

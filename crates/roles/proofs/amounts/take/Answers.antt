@@ -1,7 +1,7 @@
 use Rattle.std.proofs.Common.{◌-ℤ◌, set, not, sym, ◌∙◌, ap, arith}
 use Rattle.std.specs.Prelude.{int_lt}
-use Rattle.names.specs.Orders.{token_cmp}
-use Rattle.collections.proofs.Places.{at_in_range}
+use Rattle.contract.specs.Names.Orders.{token_cmp}
+use Rattle.contract.proofs.FromCollections.Places.{at_in_range}
 use Rattle.roles.specs.LeftSupport.{left_of}
 use Rattle.roles.proofs.LeftLemmas.{left_at, left_gap, left_set, too_few}
 use Rattle.roles.proofs.amounts.take.Goals as goal

@@ -1,5 +1,5 @@
-use Rattle.collections.proofs.SameLaws.{same_by_from}
-use Rattle.eutxo_types.specs.contracts.output.Output as outputs
+use Rattle.contract.proofs.FromCollections.SameLaws.{same_by_from}
+use Rattle.eutxo.specs.EutxoTypes.contracts.output.Output as outputs
 use Rattle.roles.proofs.owing.pays.Goals as goal
 
 pub returns : goal.returns

@@ -1,6 +1,6 @@
 use Rattle.std.proofs.Common.{◌≡◌, ◌+◌, ◌++◌, [], ◌∷◌, List, Option, Some, None, option_copied, drop, sym, ◌∙◌, ap, subst, arith}
-use Rattle.names.specs.declared.party.Party.{Party}
-use Rattle.eutxo_types.specs.declared.output.Output.{Output}
+use Rattle.contract.specs.Names.declared.party.Party.{Party}
+use Rattle.eutxo.specs.EutxoTypes.declared.output.Output.{Output}
 use Rattle.roles.specs.Steps.{and_owed_output, owed_output, due_to, due_outputs}
 use Rattle.roles.proofs.DueLemmas.{due_next}
 use Rattle.roles.proofs.PutLaws.{IsPut, put_more, put_nothing}

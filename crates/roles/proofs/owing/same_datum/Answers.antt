@@ -1,6 +1,6 @@
-use Rattle.collections.proofs.SameLaws.{same_by_from}
-use Rattle.machine.specs.declared.datum.Datum.{Datum}
-use Rattle.machine.specs.contracts.datum.Datum as datums
+use Rattle.contract.proofs.FromCollections.SameLaws.{same_by_from}
+use Rattle.eutxo.specs.Machine.declared.datum.Datum.{Datum}
+use Rattle.eutxo.specs.Machine.contracts.datum.Datum as datums
 use Rattle.roles.proofs.owing.same_datum.Goals as goal
 
 pub returns : goal.returns

@@ -1,4 +1,4 @@
-use Rattle.table.specs.AlongLaws.{along_tree}
+use Rattle.compiler.specs.Table.AlongLaws.{along_tree}
 use Rattle.roles.proofs.step.step_of.Goals as goal
 
 pub is_close-closed-requires : goal.is_close-closed-requires

@@ -4,7 +4,7 @@ use denote.Param.Send.{sendable, param_send, arg_send}
 use Rattle.std.proofs.Crossing.{crosses}
 use Rattle.std.proofs.result.Result.TheSendSync as result
 use Rattle.std.proofs.alloc.AllocError.TheSendSync as refused
-use Rattle.hub.proofs.Crossing.{seats_are_sent, receipts_are_sent, at_hubs_are_sent}
+use Rattle.parties.proofs.FromHub.Crossing.{seats_are_sent, receipts_are_sent, at_hubs_are_sent}
 use Rattle.rows_chain.proofs.seats.call_in_threads.Goals as goal
 
 -- seats at their hub go to the threads

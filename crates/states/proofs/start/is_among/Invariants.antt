@@ -1,5 +1,5 @@
 use Rattle.std.proofs.Common.{◌≡◌, drop}
-use Rattle.collections.specs.Repeats.{has_key}
+use Rattle.names.specs.Collections.Repeats.{has_key}
 use Rattle.names.specs.Orders.{account_cmp}
 use Rattle.states.specs.Start.{entries_of}
 use Rattle.states.proofs.start.is_among.Given as goal

@@ -1,7 +1,7 @@
 use Rattle.std.proofs.Common.{refl, string_bytes}
-use Rattle.evaluation.specs.Path.{waits_for}
-use Rattle.evaluation.specs.Parts.{case_tree_of}
-use Rattle.table.specs.Flat.{cont_tree, value_tree, observation_tree}
+use Rattle.machine.specs.Evaluation.Path.{waits_for}
+use Rattle.machine.specs.Evaluation.Parts.{case_tree_of}
+use Rattle.machine.specs.Table.Flat.{cont_tree, value_tree, observation_tree}
 use Rattle.step_notes.proofs.CasesLemmas.{case_more}
 use Rattle.step_notes.proofs.cases.put_cases.Goals as goal
 

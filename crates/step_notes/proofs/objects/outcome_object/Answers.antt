@@ -1,5 +1,5 @@
 use Rattle.std.proofs.Common.{rules, ◌≡◌, ◌∙◌, ◌++◌, ap, string_bytes}
-use Rattle.table.specs.Flat.{cont_tree}
+use Rattle.machine.specs.Table.Flat.{cont_tree}
 use Rattle.step_notes.specs.StepObjects.{done_members, waiting_members}
 use Rattle.step_notes.proofs.PieceLemmas.{put_two}
 use Rattle.step_notes.proofs.objects.outcome_object.Goals as goal

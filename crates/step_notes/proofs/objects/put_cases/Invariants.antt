@@ -1,6 +1,6 @@
 use Rattle.std.proofs.Common.{◌≡◌, ◌++◌, drop, string_bytes}
-use Rattle.evaluation.specs.Path.{waits_for}
-use Rattle.table.specs.Flat.{cont_tree}
+use Rattle.machine.specs.Evaluation.Path.{waits_for}
+use Rattle.machine.specs.Table.Flat.{cont_tree}
 use Rattle.step_notes.specs.StepObjects.{case_objects}
 use Rattle.step_notes.proofs.objects.put_cases.Given as goal
 

@@ -1,7 +1,7 @@
 use Rattle.std.proofs.Common.{rules, ◌≡◌, ◌∙◌, ◌++◌, ap, codes, string_bytes, OnOk}
 use Rattle.std.proofs.lemmas.Result.{on_ok_weaker}
-use Rattle.evaluation.specs.Path.{waits_for}
-use Rattle.table.specs.Flat.{cont_tree}
+use Rattle.machine.specs.Evaluation.Path.{waits_for}
+use Rattle.machine.specs.Table.Flat.{cont_tree}
 use Rattle.next_inputs.specs.Opening.{waits_until}
 use Rattle.step_notes.specs.StepObjects.{case_objects, until_text}
 use Rattle.step_notes.proofs.PieceLemmas.{put_three}

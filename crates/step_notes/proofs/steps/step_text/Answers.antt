@@ -1,4 +1,4 @@
-use Rattle.table.specs.AlongLaws.{along_tree}
+use Rattle.machine.specs.Table.AlongLaws.{along_tree}
 use Rattle.step_notes.proofs.steps.step_text.Goals as goal
 
 -- the place to which a step leads is one of the table

@@ -1,7 +1,7 @@
 use Rattle.std.proofs.Common.{◌∙◌, ◌+◌, ◌<◌, ap, sym, arith, length, drop}
 use Rattle.std.proofs.lemmas.Result.{err_from_is_err_and}
 use Rattle.contract.specs.Tree.{contract_tree}
-use Rattle.evaluation.specs.Numbers.{all_fit}
+use Rattle.semantics.specs.Evaluation.Numbers.{all_fit}
 use Rattle.semantics.specs.Walk.{standing, then_walk, answer_of}
 use Rattle.semantics.specs.Computed.{one_input, all_inputs}
 use Rattle.semantics.proofs.Walks.{follows, fails_first, same_answer}

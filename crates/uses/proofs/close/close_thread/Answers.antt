@@ -1,8 +1,8 @@
 use Rattle.std.proofs.Common.{◌≡◌, ◌≢◌, IfErr, rules, Some}
 use Rattle.std.proofs.lemmas.Result.{IfErr-weaker}
-use Rattle.builder_spec.specs.declared.fault.BuildFault.{BuildFault}
-use Rattle.builder_spec.specs.declared.fault.BuildFault.TheVariants.{Memory}
-use Rattle.builder_spec.specs.Parts.{hinders_step}
+use Rattle.chain.specs.LedgerSpec.BuilderSpec.declared.fault.BuildFault.{BuildFault}
+use Rattle.chain.specs.LedgerSpec.BuilderSpec.declared.fault.BuildFault.TheVariants.{Memory}
+use Rattle.chain.specs.LedgerSpec.BuilderSpec.Parts.{hinders_step}
 use Rattle.uses.specs.Uses.{thread_look, closing_asked, NeedNotClose}
 use Rattle.uses.proofs.SteppedLemmas.{closed, need_not}
 use Rattle.uses.proofs.close.close_thread.Goals as goal

@@ -1,5 +1,5 @@
 use Rattle.std.proofs.Common.{rules, ◌≡◌}
-use Rattle.eutxo.specs.Local.{local, verdict_of}
+use Rattle.chain.specs.LedgerSpec.Eutxo.Local.{local, verdict_of}
 use Rattle.uses.specs.Resolutions.{resolution_of}
 use Rattle.uses.specs.TimeLocks.{time_locks}
 use Rattle.uses.proofs.LockLemmas.{keeps}

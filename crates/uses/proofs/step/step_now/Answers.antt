@@ -1,7 +1,7 @@
 use Rattle.std.proofs.Common.{◌≡◌, [], refl, rules, Some, Err}
-use Rattle.builder_spec.specs.declared.fault.BuildFault.{BuildFault}
-use Rattle.builder_spec.specs.Requests.{request}
-use Rattle.builder_spec.specs.Parts.{hinders_step}
+use Rattle.chain.specs.LedgerSpec.BuilderSpec.declared.fault.BuildFault.{BuildFault}
+use Rattle.chain.specs.LedgerSpec.BuilderSpec.Requests.{request}
+use Rattle.chain.specs.LedgerSpec.BuilderSpec.Parts.{hinders_step}
 use Rattle.uses.specs.Uses.{thread_look, step_asked}
 use Rattle.uses.proofs.CallerLemmas.{step_answer, stepped_by, after_by, only_looked, hindered_by}
 use Rattle.uses.proofs.step.step_now.Goals as goal

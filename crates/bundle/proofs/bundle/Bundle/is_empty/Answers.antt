@@ -1,7 +1,7 @@
 use Rattle.std.proofs.Common.{◌≡◌, [], sym, ◌∙◌, ap}
 use Rattle.std.specs.FinMap.{entries, empty, from_sorted, entries-from_sorted}
 use Rattle.names.specs.Orders.{token_cmp}
-use Rattle.collections.proofs.Maps.{no_entries}
+use Rattle.names.proofs.FromCollections.Maps.{no_entries}
 use Rattle.bundle.proofs.bundle.Bundle.is_empty.Goals as goal
 
 pub returns : goal.returns

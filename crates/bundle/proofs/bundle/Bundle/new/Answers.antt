@@ -1,7 +1,7 @@
 use Rattle.std.proofs.Common.{◌∙◌, ap}
 use Rattle.std.specs.FinMap.{from_sorted}
 use Rattle.names.specs.Orders.{token_cmp}
-use Rattle.collections.proofs.Maps.{no_entries}
+use Rattle.names.proofs.FromCollections.Maps.{no_entries}
 use Rattle.bundle.proofs.bundle.Bundle.new.Goals as goal
 
 pub returns : goal.returns

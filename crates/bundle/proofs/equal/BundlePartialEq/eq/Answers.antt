@@ -1,4 +1,4 @@
-use Rattle.collections.proofs.SameLaws.{same_by_from}
+use Rattle.names.proofs.FromCollections.SameLaws.{same_by_from}
 use Rattle.bundle.specs.contracts.bundle.Bundle as it
 use Rattle.bundle.proofs.equal.BundlePartialEq.eq.Goals as goal
 

@@ -1,5 +1,5 @@
 use Rattle.std.proofs.Common.{rules, ◌≡◌, ◌∙◌, ap, ℤ, [], to_z, of_z, w64}
-use Rattle.ledger_spec.specs.Replay.{Course}
+use Rattle.ledger_views.specs.LedgerSpec.Replay.{Course}
 use Rattle.chain.proofs.chain.Chain.genesis.Goals as goal
 
 pub returns-clause-ok : goal.returns-clause-ok

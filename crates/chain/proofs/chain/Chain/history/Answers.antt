@@ -1,4 +1,4 @@
-use Rattle.ledger_spec.specs.Replay.{Course}
+use Rattle.ledger_views.specs.LedgerSpec.Replay.{Course}
 use Rattle.chain.proofs.ShownLemmas.{published_between, shows}
 use Rattle.chain.proofs.chain.Chain.history.Goals as goal
 

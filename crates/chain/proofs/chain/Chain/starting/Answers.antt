@@ -1,6 +1,6 @@
 use Rattle.std.proofs.Common.{rules, ◌∙◌, ap, to_z, of_z, w64}
-use Rattle.chain_index.specs.Contents.{beginning}
-use Rattle.ledger_spec.specs.Replay.{Course}
+use Rattle.ledger_views.specs.ChainIndex.Contents.{beginning}
+use Rattle.ledger_views.specs.LedgerSpec.Replay.{Course}
 use Rattle.chain.proofs.LegalLemmas.{kept_start}
 use Rattle.chain.proofs.chain.Chain.starting.Goals as goal
 

@@ -1,11 +1,11 @@
 use Rattle.std.proofs.Common.{rules, ◌≡◌, ◌∷◌, [], ◌++◌, refl, sym, ◌∙◌, ap, subst, List}
 use Rattle.chain.specs.ChainSupport.{IsKept}
-use Rattle.ledger.specs.declared.call.Entry.{Entry}
-use Rattle.ledger_laws.specs.Sound.{IsMore}
-use Rattle.ledger_kept.specs.Kept.{IsIndexOf, world_with}
-use Rattle.ledger_spec.specs.Calls.{reply_to}
-use Rattle.ledger_spec.specs.Legal.{entry_of, with_entry}
-use Rattle.ledger_spec.specs.Replay.{Course, count_of, published, published_at, world}
+use Rattle.ledger_views.specs.Ledger.declared.call.Entry.{Entry}
+use Rattle.ledger_views.specs.LedgerLaws.Sound.{IsMore}
+use Rattle.ledger_views.specs.LedgerKept.Kept.{IsIndexOf, world_with}
+use Rattle.ledger_views.specs.LedgerSpec.Calls.{reply_to}
+use Rattle.ledger_views.specs.LedgerSpec.Legal.{entry_of, with_entry}
+use Rattle.ledger_views.specs.LedgerSpec.Replay.{Course, count_of, published, published_at, world}
 use Rattle.chain.proofs.LegalLemmas.{kept_cut, kept_settled, made_entry, stays_published}
 use Rattle.chain.proofs.chain.Chain.step.Goals as goal
 

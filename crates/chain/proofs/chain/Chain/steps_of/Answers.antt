@@ -1,6 +1,6 @@
 use Rattle.std.proofs.Common.{sym, subst, ◌∙◌}
-use Rattle.ledger_laws.specs.Laws.{AreTables}
-use Rattle.ledger_spec.specs.Replay.{Course, world, published_at}
+use Rattle.ledger_views.specs.LedgerLaws.Laws.{AreTables}
+use Rattle.ledger_views.specs.LedgerSpec.Replay.{Course, world, published_at}
 use Rattle.chain.proofs.chain.Chain.steps_of.Goals as goal
 
 pub steps_of-requires-clause-tables : goal.steps_of-requires-clause-tables

@@ -1,11 +1,11 @@
 use Rattle.std.proofs.Common.{◌≡◌, ◌∙◌, ◌++◌, ◌∷◌, [], ◌||◌, ℕ, List, refl, sym, subst, ap}
 use Rattle.std.specs.List.{list_any}
 use Rattle.std.proofs.lemmas.Result.{on_ok_weaker}
-use Rattle.eutxo_types.specs.declared.output_ref.OutputRef.TheVariants.{Made}
-use Rattle.eutxo_types.specs.declared.spend.Spend.{Spend}
-use Rattle.eutxo_types.specs.Parts.{same_ref}
-use Rattle.eutxo.specs.Blocks.{places_in}
-use Rattle.ledger_laws.specs.Past.{with_references}
+use Rattle.ledger_spec.specs.EutxoTypes.declared.output_ref.OutputRef.TheVariants.{Made}
+use Rattle.ledger_spec.specs.EutxoTypes.declared.spend.Spend.{Spend}
+use Rattle.ledger_spec.specs.EutxoTypes.Parts.{same_ref}
+use Rattle.ledger_spec.specs.Eutxo.Blocks.{places_in}
+use Rattle.ledger_spec.specs.LedgerLaws.Past.{with_references}
 use Rattle.chain_index.specs.Contents.{blocks_in, is_among}
 use Rattle.chain_index.specs.PartsSupport.{Parts, contents_in}
 use Rattle.chain_index.specs.Moves.{moves_to}

@@ -1,6 +1,6 @@
 use Rattle.std.proofs.Common.{◌∙◌, ap, sym}
 use Rattle.std.specs.Map.{lookup}
-use Rattle.eutxo_types.specs.Parts.{same_ref}
+use Rattle.ledger_spec.specs.EutxoTypes.Parts.{same_ref}
 use Rattle.chain_index.specs.PartsSupport.{Parts, contents_in}
 use Rattle.chain_index.proofs.LiveLemmas.{unspent_none, unspent_some}
 use Rattle.chain_index.proofs.parts.Parts.datum_at.Goals as goal

@@ -1,6 +1,6 @@
 use Rattle.std.proofs.Common.{◌∙◌, ap, List}
 use Rattle.std.specs.Map.{values_of}
-use Rattle.eutxo_types.specs.declared.output_ref.OutputRef.{OutputRef}
+use Rattle.ledger_spec.specs.EutxoTypes.declared.output_ref.OutputRef.{OutputRef}
 use Rattle.chain_index.specs.HolesSupport.{live, staying}
 use Rattle.chain_index.specs.PartsSupport.{contents_in}
 use Rattle.chain_index.proofs.LiveLemmas.{none_leave}

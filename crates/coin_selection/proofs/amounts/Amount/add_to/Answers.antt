@@ -1,6 +1,6 @@
 use Rattle.std.proofs.Common.{ℤ, OnOk, subst, arith}
 use Rattle.std.proofs.lemmas.Int.{ints}
-use Rattle.names.specs.declared.token.Token.{Token}
+use Rattle.contract.specs.Names.declared.token.Token.{Token}
 use Rattle.coin_selection.specs.MissingSupport.{Adds}
 use Rattle.coin_selection.proofs.amounts.Amount.add_to.Goals as goal
 

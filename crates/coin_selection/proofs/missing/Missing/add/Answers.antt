@@ -3,8 +3,8 @@ use Rattle.std.proofs.lemmas.Int.{ints}
 use Rattle.std.proofs.lemmas.Result.{on_err_weaker}
 use Rattle.std.specs.Option.{IfSome}
 use Rattle.std.specs.FinMap.{from_entries}
-use Rattle.names.specs.Orders.{token_cmp}
-use Rattle.bundle.specs.Bundles.{amount_of}
+use Rattle.contract.specs.Names.Orders.{token_cmp}
+use Rattle.builder_spec.specs.Bundle.Bundles.{amount_of}
 use Rattle.coin_selection.specs.MissingSupport.{InRange}
 use Rattle.coin_selection.proofs.MissingLemmas.{more, first, unchanged, in_range, set_in_range, more_in_range, on_ok, on_err, by_amount}
 use Rattle.coin_selection.proofs.missing.Missing.add.Goals as goal

@@ -1,7 +1,7 @@
 use Rattle.std.proofs.Common.{◌≡◌, pos, false, if◌then◌else◌, Some, sym, ◌∙◌, ap}
 use Rattle.std.specs.Ordering.{eq_by_cmp}
 use Rattle.std.specs.FinMap.{get}
-use Rattle.names.specs.Orders.{token_cmp}
+use Rattle.contract.specs.Names.Orders.{token_cmp}
 use Rattle.std.specs.Prelude.{is_some}
 use Rattle.coin_selection.proofs.MissingLemmas.{known, kept, on_ok}
 use Rattle.coin_selection.proofs.missing.Missing.add_one.Goals as goal

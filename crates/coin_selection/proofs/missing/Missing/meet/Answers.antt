@@ -1,7 +1,7 @@
 use Rattle.std.proofs.Common.{◌≡◌, ◌∙◌, sym, ap, subst, None, rules}
 use Rattle.std.specs.FinMap.{get}
 use Rattle.std.specs.Option.{IfSome}
-use Rattle.bundle.specs.Bundles.{Amounts, amount_of}
+use Rattle.builder_spec.specs.Bundle.Bundles.{Amounts, amount_of}
 use Rattle.coin_selection.specs.MissingSupport.{left, InRange}
 use Rattle.coin_selection.specs.MeetSupport.{left_after}
 use Rattle.coin_selection.proofs.MeetLemmas.{after_all}

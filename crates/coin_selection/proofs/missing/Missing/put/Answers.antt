@@ -2,7 +2,7 @@ use Rattle.std.proofs.Common.{ℤ, if◌then◌else◌, Some, sym, ◌∙◌, ap
 use Rattle.std.proofs.lemmas.Int.{ints}
 use Rattle.std.specs.Ordering.{eq_by_cmp}
 use Rattle.std.specs.FinMap.{get, from_entries}
-use Rattle.names.specs.Orders.{token_cmp}
+use Rattle.contract.specs.Names.Orders.{token_cmp}
 use Rattle.coin_selection.proofs.MissingLemmas.{viewed, set_in_range}
 use Rattle.coin_selection.proofs.missing.Missing.put.Goals as goal
 

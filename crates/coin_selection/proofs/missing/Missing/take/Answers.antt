@@ -2,8 +2,8 @@ use Rattle.std.proofs.Common.{◌≡◌, neg_ℤ, if◌then◌else◌, refl, sym
 use Rattle.std.proofs.lemmas.Int.{ints}
 use Rattle.std.specs.Ordering.{eq_by_cmp}
 use Rattle.std.specs.FinMap.{get, from_entries}
-use Rattle.names.specs.declared.token.Token.{Token}
-use Rattle.names.specs.Orders.{token_cmp}
+use Rattle.contract.specs.Names.declared.token.Token.{Token}
+use Rattle.contract.specs.Names.Orders.{token_cmp}
 use Rattle.coin_selection.specs.MissingSupport.{left}
 use Rattle.coin_selection.proofs.MissingLemmas.{in_range, taken_whole, taken_part, none_over, less_in_range, by_amount}
 use Rattle.coin_selection.proofs.missing.Missing.take.Goals.{else-change-via-then-change+else-is_over, else-change-via-else-change}

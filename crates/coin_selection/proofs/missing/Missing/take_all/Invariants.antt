@@ -1,7 +1,7 @@
 use Rattle.std.proofs.Common.{◌≡◌, drop}
 use Rattle.std.specs.FinMap.{get}
-use Rattle.collections.specs.Positive.{AllPositive}
-use Rattle.names.specs.declared.token.Token.{Token}
+use Rattle.contract.specs.Collections.Positive.{AllPositive}
+use Rattle.contract.specs.Names.declared.token.Token.{Token}
 use Rattle.coin_selection.specs.MeetSupport.{left_after}
 use Rattle.coin_selection.proofs.missing.Missing.take_all.Given as goal
 

@@ -1,4 +1,4 @@
-use Rattle.collections.proofs.SameLaws.{same_by_from}
+use Rattle.states.proofs.FromCollections.SameLaws.{same_by_from}
 use Rattle.contract.specs.contracts.tree.Case as it
 use Rattle.contract.proofs.equal.CasePartialEq.eq.Goals as goal
 

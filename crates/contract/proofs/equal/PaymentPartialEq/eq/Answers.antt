@@ -1,4 +1,4 @@
-use Rattle.collections.proofs.SameLaws.{same_by_from}
+use Rattle.states.proofs.FromCollections.SameLaws.{same_by_from}
 use Rattle.contract.specs.contracts.payment.Payment as it
 use Rattle.contract.proofs.equal.PaymentPartialEq.eq.Goals as goal
 

@@ -1,4 +1,4 @@
-use Rattle.collections.proofs.SameLaws.{same_by_from}
+use Rattle.states.proofs.FromCollections.SameLaws.{same_by_from}
 use Rattle.contract.specs.contracts.value.Value as it
 use Rattle.contract.proofs.equal.ValuePartialEq.eq.Goals as goal
 

@@ -1,4 +1,4 @@
-use Rattle.collections.proofs.SameLaws.{same_by_from}
+use Rattle.states.proofs.FromCollections.SameLaws.{same_by_from}
 use Rattle.contract.specs.contracts.warning.Warning as it
 use Rattle.contract.proofs.equal.WarningPartialEq.eq.Goals as goal
 

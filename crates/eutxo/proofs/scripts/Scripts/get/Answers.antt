@@ -1,7 +1,7 @@
 use Rattle.std.proofs.Common.{sym, ◌∙◌, ap}
 use Rattle.std.specs.FinMap.{get-entries}
 use Rattle.std.specs.FinMap.Entries.{find}
-use Rattle.names.specs.Orders.{bytes_cmp}
+use Rattle.contract.specs.Names.Orders.{bytes_cmp}
 use Rattle.eutxo.proofs.scripts.Scripts.get.Goals as goal
 
 pub returns : goal.returns

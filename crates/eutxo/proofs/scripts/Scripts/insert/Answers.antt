@@ -1,6 +1,6 @@
 use Rattle.std.proofs.Common.{◌∙◌, ap}
 use Rattle.std.specs.FinMap.{from_sorted, insert}
-use Rattle.names.specs.Orders.{bytes_cmp}
+use Rattle.contract.specs.Names.Orders.{bytes_cmp}
 use Rattle.eutxo.proofs.ScriptPutLemmas.{map_put, on_ok}
 use Rattle.eutxo.proofs.scripts.Scripts.insert.Goals as goal
 

@@ -1,7 +1,7 @@
 use Rattle.std.proofs.Common.{◌∙◌, ap}
 use Rattle.std.specs.FinMap.{from_sorted}
-use Rattle.names.specs.Orders.{bytes_cmp}
-use Rattle.collections.proofs.Maps.{no_entries}
+use Rattle.contract.specs.Names.Orders.{bytes_cmp}
+use Rattle.contract.proofs.FromCollections.Maps.{no_entries}
 use Rattle.eutxo.proofs.scripts.Scripts.new.Goals as goal
 
 pub returns : goal.returns

@@ -1,5 +1,5 @@
 use Rattle.std.proofs.lemmas.Result.{on_err_weaker}
-use Rattle.contract_bytes.proofs.Fronts.{on_any_err, front_first, front_then}
+use Rattle.machine.proofs.FromContractBytes.Fronts.{on_any_err, front_first, front_then}
 use Rattle.eutxo_types.specs.Spelling.{lock_bytes, amount_bytes}
 use Rattle.eutxo_types.proofs.encode.OutputSpell.put.Goals as goal
 

@@ -1,5 +1,5 @@
 use Rattle.std.proofs.lemmas.Result.{on_err_weaker}
-use Rattle.contract_bytes.proofs.Fronts.{on_any_err, front_first, front_then}
+use Rattle.machine.proofs.FromContractBytes.Fronts.{on_any_err, front_first, front_then}
 use Rattle.eutxo_types.specs.Spelling.{reference_bytes, redeemer_bytes}
 use Rattle.eutxo_types.proofs.encode.SpendSpell.put.Goals as goal
 

@@ -1,4 +1,4 @@
-use Rattle.collections.proofs.SameLaws.{same_by_from}
+use Rattle.contract.proofs.FromCollections.SameLaws.{same_by_from}
 use Rattle.eutxo_types.specs.contracts.spend.Spend as it
 use Rattle.eutxo_types.proofs.equal.SpendPartialEq.eq.Goals as goal
 

@@ -1,7 +1,7 @@
 use Rattle.std.proofs.Common.{rules, ◌≡◌, [], ◌∷◌, ◌++◌, ℕ, List, refl, sym, ap, ◌∙◌}
 use Rattle.ledger.specs.declared.call.Entry.{Entry}
-use Rattle.ledger_spec.specs.Legal.{entry_of}
-use Rattle.ledger_spec.specs.Replay.{Course}
+use Rattle.chain_index.specs.LedgerSpec.Legal.{entry_of}
+use Rattle.chain_index.specs.LedgerSpec.Replay.{Course}
 use Rattle.hub.specs.declared.answer.Answer.{Answer}
 use Rattle.hub.specs.Seats.{entry_told}
 use Rattle.hub.proofs.SeatsLemmas.{fits_call, same_entry}

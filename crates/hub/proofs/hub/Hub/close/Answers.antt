@@ -1,8 +1,8 @@
 use Rattle.std.proofs.Common.{◌≡◌, List, length, sym, ◌∙◌, subst}
 use Rattle.ledger.specs.declared.call.Entry.{Entry}
 use Rattle.hub.specs.HubSupport.{AllFit}
-use Rattle.ledger_spec.specs.Legal.{IsLegal}
-use Rattle.ledger_spec.specs.Replay.{Course}
+use Rattle.chain_index.specs.LedgerSpec.Legal.{IsLegal}
+use Rattle.chain_index.specs.LedgerSpec.Replay.{Course}
 use Rattle.hub.specs.Seats.{answered, AreHeard}
 use Rattle.hub.proofs.SeatsLemmas.{all_heard}
 use Rattle.hub.proofs.hub.Hub.close.Goals as goal

@@ -1,4 +1,4 @@
-use Rattle.collections.proofs.SameLaws.{same_by_from}
+use Rattle.contract.proofs.FromCollections.SameLaws.{same_by_from}
 use Rattle.ledger.specs.contracts.call.Call as it
 use Rattle.ledger.proofs.equal.CallPartialEq.eq.Goals as goal
 

@@ -1,7 +1,7 @@
 use Rattle.std.proofs.Common.{◌≡◌, ◌∙◌, ap, subst, map, Option, Some, None}
 use Rattle.std.specs.List.{slice_get}
-use Rattle.eutxo_types.specs.declared.tx.Tx.{Tx}
-use Rattle.ledger_spec.specs.Replay.{Course, world}
+use Rattle.chain_index.specs.EutxoTypes.declared.tx.Tx.{Tx}
+use Rattle.chain_index.specs.LedgerSpec.Replay.{Course, world}
 use Rattle.ledger_kept.specs.Kept.{text_at}
 use Rattle.ledger_kept.proofs.KeptLemmas.{accepted_there, accepted_is, accepted_none}
 use Rattle.ledger_kept.proofs.kept.Kept.accepted_at.Goals as goal

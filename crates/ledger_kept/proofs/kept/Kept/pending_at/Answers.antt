@@ -1,6 +1,6 @@
 use Rattle.std.proofs.Common.{◌≡◌, ◌<◌, ◌∙◌, sym, ap, subst, map, length, get_or, Some}
 use Rattle.std.specs.List.{slice_get}
-use Rattle.ledger_spec.specs.Replay.{Course, pending_entry, world}
+use Rattle.chain_index.specs.LedgerSpec.Replay.{Course, pending_entry, world}
 use Rattle.ledger_kept.specs.declared.tally.Waiting.{Waiting}
 use Rattle.ledger_kept.specs.Kept.{with_text}
 use Rattle.ledger_kept.proofs.KeptLemmas.{pending_there, pending_is}

@@ -3,7 +3,7 @@ use Rattle.std.specs.Prelude.{IsSome, nat_eq}
 use Rattle.std.specs.Map.{lookup}
 use Rattle.ledger_kept.specs.Kept.{Tally, counted, IsTally}
 use Rattle.ledger_kept.specs.TallySupport.{IsCounted}
-use Rattle.ledger_spec.specs.Replay.{Course}
+use Rattle.chain_index.specs.LedgerSpec.Replay.{Course}
 use Rattle.ledger_kept.proofs.KeepLemmas.{on_err, counts_alike, kept_counts, tickets_fit, counts_fit, kept}
 use Rattle.ledger_kept.proofs.tally.Tally.keep.Goals as goal
 

@@ -1,4 +1,4 @@
-use Rattle.collections.proofs.SameLaws.{same_by_from}
+use Rattle.contract.proofs.FromCollections.SameLaws.{same_by_from}
 use Rattle.ledger_spec.specs.contracts.step_record.StepRecord as it
 use Rattle.ledger_spec.proofs.step_record.StepRecordPartialEq.eq.Goals as goal
 

@@ -1,4 +1,4 @@
-use Rattle.collections.proofs.SameLaws.{same_by_from}
+use Rattle.contract.proofs.FromCollections.SameLaws.{same_by_from}
 use Rattle.machine.specs.contracts.datum.Datum as it
 use Rattle.machine.proofs.datum.DatumPartialEq.eq.Goals as goal
 

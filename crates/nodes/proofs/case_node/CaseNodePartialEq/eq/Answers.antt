@@ -1,4 +1,4 @@
-use Rattle.collections.proofs.SameLaws.{same_by_from}
+use Rattle.names.proofs.FromCollections.SameLaws.{same_by_from}
 use Rattle.nodes.specs.contracts.case_node.CaseNode as it
 use Rattle.nodes.proofs.case_node.CaseNodePartialEq.eq.Goals as goal
 

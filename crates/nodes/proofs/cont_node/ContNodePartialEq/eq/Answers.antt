@@ -1,4 +1,4 @@
-use Rattle.collections.proofs.SameLaws.{same_by_from}
+use Rattle.names.proofs.FromCollections.SameLaws.{same_by_from}
 use Rattle.nodes.specs.contracts.cont_node.ContNode as it
 use Rattle.nodes.proofs.cont_node.ContNodePartialEq.eq.Goals as goal
 

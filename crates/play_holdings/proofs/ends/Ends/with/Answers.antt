@@ -1,6 +1,6 @@
 use Rattle.std.proofs.Common.{◌≡◌, ℕ, ◌+◌, List, Option, ◌∷◌, [], ◌++◌, length, ◌∙◌, ap, sym, arith}
 use Rattle.std.proofs.lemmas.Grind.{common_steps}
-use Rattle.eutxo_types.specs.declared.output_ref.OutputRef.{OutputRef}
+use Rattle.eutxo.specs.EutxoTypes.declared.output_ref.OutputRef.{OutputRef}
 use Rattle.play_holdings.specs.Holdings.{ends_at, thread_from}
 use Rattle.play_holdings.specs.SumsSupport.{or_place}
 use Rattle.play_holdings.proofs.EndsLemmas.{thread_from-append}

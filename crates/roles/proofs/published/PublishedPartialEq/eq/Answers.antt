@@ -1,4 +1,4 @@
-use Rattle.collections.proofs.SameLaws.{same_by_from}
+use Rattle.contract.proofs.FromCollections.SameLaws.{same_by_from}
 use Rattle.roles.specs.contracts.published.Published as it
 use Rattle.roles.proofs.published.PublishedPartialEq.eq.Goals as goal
 

@@ -1,4 +1,4 @@
-use Rattle.collections.proofs.SameLaws.{same_by_from}
+use Rattle.names.proofs.FromCollections.SameLaws.{same_by_from}
 use Rattle.states.specs.contracts.state.State as it
 use Rattle.states.proofs.equal.StatePartialEq.eq.Goals as goal
 

@@ -6,7 +6,7 @@ use Rattle.std.specs.FinMap.{get, get-from_sorted}
 use Rattle.names.specs.declared.account.Account.{Account}
 use Rattle.names.specs.Orders.{account_cmp}
 use Rattle.states.specs.States.{StateMaps}
-use Rattle.collections.proofs.Positive.{AllPositive-find}
+use Rattle.names.proofs.FromCollections.Positive.{AllPositive-find}
 use Rattle.states.proofs.state.State.money.Goals as goal
 
 pub returns : goal.returns

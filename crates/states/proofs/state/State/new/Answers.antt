@@ -1,6 +1,6 @@
 use Rattle.std.proofs.Math.Facts.{to_z-of_z}
 use Rattle.names.specs.Orders.{account_cmp, choice_id_cmp, bytes_cmp}
-use Rattle.collections.proofs.Maps.{no_entries}
+use Rattle.names.proofs.FromCollections.Maps.{no_entries}
 use Rattle.states.proofs.state.State.new.Goals as goal
 
 pub returns : goal.returns

@@ -5,7 +5,7 @@ use Rattle.std.specs.FinMap.{FinMap, put, get, insert, from_sorted, get-from_sor
 use Rattle.names.specs.Orders.{choice_id_cmp}
 use Rattle.names.specs.Totals.{choice_id_total}
 use Rattle.states.specs.States.{StateMaps}
-use Rattle.collections.proofs.Maps.{put_is_insert}
+use Rattle.names.proofs.FromCollections.Maps.{put_is_insert}
 use Rattle.states.proofs.state.State.set_choice.Goals as goal
 
 pub returns-clause-ok : goal.returns-clause-ok

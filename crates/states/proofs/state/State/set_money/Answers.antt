@@ -12,8 +12,8 @@ use Rattle.names.specs.Orders.{account_cmp}
 use Rattle.names.specs.Totals.{account_total}
 use Rattle.states.specs.States.{StateMaps, AllPositive}
 use Rattle.names.proofs.Exact.{account_exact}
-use Rattle.collections.proofs.Positive.{AllPositive-put, AllPositive-where_key}
-use Rattle.collections.proofs.Maps.{put_is_insert, without_is_remove}
+use Rattle.names.proofs.FromCollections.Positive.{AllPositive-put, AllPositive-where_key}
+use Rattle.names.proofs.FromCollections.Maps.{put_is_insert, without_is_remove}
 use Rattle.states.proofs.state.State.set_money.Goals as goal
 
 false_of : {P : Type 0} → (b : Bool) → Decides b P → (P → ⊥) → b ≡ false

@@ -3,7 +3,7 @@ use Rattle.std.proofs.Math.Facts.{to_z-of_z}
 use Rattle.std.specs.List.{list_all}
 use Rattle.std.specs.FinMap.{from_sorted, from_entries}
 use Rattle.names.specs.Orders.{account_cmp, choice_id_cmp, bytes_cmp}
-use Rattle.collections.proofs.Maps.{no_entries}
+use Rattle.names.proofs.FromCollections.Maps.{no_entries}
 use Rattle.states.specs.Start.{is_positive, entries_of}
 use Rattle.states.proofs.Starting.{sorted_positive, sorted_map}
 use Rattle.states.proofs.state.State.start.Goals as goal

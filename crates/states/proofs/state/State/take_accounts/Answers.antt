@@ -2,7 +2,7 @@ use Rattle.std.proofs.Common.{ℤ, sym, ◌∙◌, ap}
 use Rattle.std.specs.FinMap.{FinMap, entries, empty, from_sorted, entries-from_sorted}
 use Rattle.names.specs.Orders.{account_cmp}
 use Rattle.states.specs.States.{StateMaps}
-use Rattle.collections.proofs.Maps.{no_entries}
+use Rattle.names.proofs.FromCollections.Maps.{no_entries}
 use Rattle.states.proofs.state.State.take_accounts.Goals as goal
 
 pub returns-clause-taken : goal.returns-clause-taken

@@ -1,6 +1,6 @@
 use Rattle.std.proofs.Common.{rules, ◌≡◌, ◌∙◌, sym, ap, subst, length, position, Some, None, IfOk}
-use Rattle.nodes.specs.contracts.cont_node.ContNodePartialEq.TheImpl as cont_eq
-use Rattle.nodes.specs.declared.cont.Cont.{Cont}
+use Rattle.table.specs.Nodes.contracts.cont_node.ContNodePartialEq.TheImpl as cont_eq
+use Rattle.table.specs.Nodes.declared.cont.Cont.{Cont}
 use Rattle.table.specs.Flat.{Flat}
 use Rattle.table.specs.Pushing.{with_cont}
 use Rattle.table_builder.specs.Putting.{put_cont}

@@ -1,5 +1,5 @@
 use Rattle.std.proofs.Common.{rules, ◌≡◌, ◌∙◌, sym, ap, subst, ℕ, length, position, Some, None, IfOk}
-use Rattle.nodes.specs.contracts.observation_node.ObservationNodePartialEq.TheImpl as observation_eq
+use Rattle.table.specs.Nodes.contracts.observation_node.ObservationNodePartialEq.TheImpl as observation_eq
 use Rattle.table.specs.Flat.{Flat}
 use Rattle.table.specs.Pushing.{with_observation}
 use Rattle.table_builder.specs.Putting.{put_observation}

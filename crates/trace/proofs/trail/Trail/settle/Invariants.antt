@@ -1,6 +1,6 @@
 use Rattle.std.proofs.Common.{◌≡◌, ◌++◌}
 use Rattle.contract.specs.Tree.{contract_tree}
-use Rattle.evaluation.specs.Numbers.{all_fit}
+use Rattle.semantics.specs.Evaluation.Numbers.{all_fit}
 use Rattle.semantics.specs.Computed.{settled}
 use Rattle.semantics.proofs.Settling.{height}
 use Rattle.analysis_spec.specs.Marks.{led, settling}

@@ -1,4 +1,4 @@
-use Rattle.collections.proofs.SameLaws.{same_by_from}
+use Rattle.contract.proofs.FromCollections.SameLaws.{same_by_from}
 use Rattle.table.specs.contracts.table.Table as it
 use Rattle.table.proofs.table.same.TablePartialEq.eq.Goals as goal
 

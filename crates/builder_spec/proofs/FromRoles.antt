@@ -1,0 +1,3 @@
+-- Lemmas of `roles`, passed on.
+pub use Rattle.ledger.proofs.FromRoles.OwedLaws
+pub use Rattle.ledger.proofs.FromRoles.PutLaws

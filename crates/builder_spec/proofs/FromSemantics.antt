@@ -1,0 +1,3 @@
+-- Lemmas of `semantics`, passed on.
+pub use Rattle.ledger.proofs.FromSemantics.Integers
+pub use Rattle.ledger.proofs.FromSemantics.Matching

@@ -1,0 +1,3 @@
+-- Lemmas of `names`, passed on.
+pub use Rattle.states.proofs.FromNames.EqualLaws
+pub use Rattle.states.proofs.FromNames.Exact

@@ -1,0 +1,2 @@
+-- Lemmas of `names`, passed on.
+pub use Rattle.contract.proofs.FromNames.Exact

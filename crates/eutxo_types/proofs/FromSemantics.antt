@@ -1,0 +1,3 @@
+-- Lemmas of `semantics`, passed on.
+pub use Rattle.machine.proofs.FromSemantics.Integers
+pub use Rattle.machine.proofs.FromSemantics.Matching

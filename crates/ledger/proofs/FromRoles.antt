@@ -1,0 +1,3 @@
+-- Lemmas of `roles`, passed on.
+pub use Rattle.roles.proofs.OwedLaws
+pub use Rattle.roles.proofs.PutLaws

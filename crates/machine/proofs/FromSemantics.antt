@@ -1,0 +1,3 @@
+-- Lemmas of `semantics`, passed on.
+pub use Rattle.semantics.proofs.Integers
+pub use Rattle.semantics.proofs.Matching

@@ -1,0 +1,2 @@
+-- Lemmas of `semantics`, passed on.
+pub use Rattle.semantics.proofs.Faults

@@ -1,0 +1,2 @@
+-- Lemmas of `hub`, passed on.
+pub use Rattle.hub.proofs.Crossing

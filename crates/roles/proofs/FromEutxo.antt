@@ -1,0 +1,3 @@
+-- Lemmas of `eutxo`, passed on.
+pub use Rattle.eutxo.proofs.DatumLemmas
+pub use Rattle.eutxo.proofs.SameRefLaws

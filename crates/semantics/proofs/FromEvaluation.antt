@@ -1,0 +1,2 @@
+-- Lemmas of `evaluation`, passed on.
+pub use Rattle.evaluation.proofs.Numbers

@@ -1,0 +1,3 @@
+-- Lemmas of `names`, passed on.
+pub use Rattle.names.proofs.EqualLaws
+pub use Rattle.names.proofs.Exact

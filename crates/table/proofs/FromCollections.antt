@@ -1,0 +1,2 @@
+-- Lemmas of `collections`, passed on.
+pub use Rattle.contract.proofs.FromCollections.SameLaws
