@@ -121,14 +121,13 @@ def others(contract, state, transaction):
     if sort == 0: return {"next": {**parts, "after": [transaction] * R.randrange(2), **R.choice([{}, {"from": 3}, {"from": 3, "to": 9}])}}
     return {"table": {"contract": contract}} if sort == 1 else {"analyse": {**parts, "no_runs": R.random() < 0.5, "notes": R.random() < 0.5}}
 class Differs(Exception): pass
-OF_TEXTS = ("file", "line", "column", "first")
+OF_TEXTS = ("file", "line", "column", "first", "names")
 def stands_so(told, other):
     """Whether two numbers are told to stand there that are one: of a fraction a text may have its own spelling."""
     try: return float(told) == float(other)
     except ValueError: return False
 def explained(printed, told):
-    """The refusal that a command prints, as a stream has it: without what only a text has. Of a scenario that isn't read nothing is explained."""
-    if printed["of"] == "scenario": return told_first(printed)
+    """The refusal that a command prints, as a stream has it: without what only a text has."""
     if "wanted" in printed and stands_so(printed["stands"], told.get("stands", "")): printed = {**printed, "stands": told["stands"]}
     return {key: it for key, it in printed.items() if key not in OF_TEXTS}
 def told_first(refused):

@@ -21,5 +21,6 @@ pub use json_stops::{Stop, first_stop};
 pub use json_tree::{Json, JsonValue, from_slice};
 pub use laws::worked_texts;
 pub use part_tokens::beginning_of;
+pub use scenario_stops::first_stop as scenario_stop;
 pub use text_spots::Spot;
 pub use told_parts::{Told, part_members};

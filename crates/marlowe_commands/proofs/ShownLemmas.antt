@@ -4,6 +4,8 @@ use Rattle.std.specs.Prelude.{◌++◌}
 use Rattle.std.proofs.lemmas.Bool.{true≢false}
 use Rattle.std.proofs.lemmas.List.{append-nil, append_assoc}
 use Rattle.std.proofs.Math.Dec.{eqb}
+use Rattle.std.specs.declared.vec.Vec.{Vec}
+use Rattle.std.specs.declared.alloc.Global.{Global}
 use Rattle.clap.specs.Words.{Row, Text}
 use Rattle.serve.specs.JsonMembers.declared.spelling.Spelling.{Spelling}
 use Rattle.marlowe_play.specs.MarloweRefusals.declared.fault.Fault.{Fault}
@@ -15,6 +17,9 @@ use Rattle.marlowe_play.specs.MarloweRefusals.declared.table_fault.TableFault.Th
 use Rattle.marlowe_play.specs.MarloweRefusals.declared.trace_fault.TraceFault.{TraceFault}
 use Rattle.marlowe_play.specs.MarloweRefusals.declared.trace_fault.TraceFault.TheVariants as trace
 use Rattle.serve.specs.RefusalObjects.Objects.{refused_line, fault_status, run_status, table_status, trace_status}
+use Rattle.refusal_reasons.specs.Reasoned.{IsReasoned}
+use Rattle.refusal_reasons.specs.declared.reasoned.Reasoned.{Reasoned}
+use Rattle.refusal_reasons.specs.declared.reasoned.Reasoned.TheVariants.{Answer, Refused}
 use Rattle.marlowe_run.specs.declared.readable.Readable.{Readable}
 use Rattle.serve.specs.MarloweTrace.Traced.{Told}
 use Rattle.serve.specs.MarloweNext.declared.asked.Asked.{Asked}
@@ -31,7 +36,7 @@ use Rattle.marlowe_commands.specs.declared.face.Face.{Face}
 use Rattle.marlowe_commands.specs.declared.face.Face.TheVariants.{Plain, Explained, Json}
 use Rattle.marlowe_commands.specs.declared.printed.Printed.{Printed}
 use Rattle.marlowe_commands.specs.Streams.{Streams, streams_of, Saying, Refusal, says, refuses, for_people, for_tools, shown, spelling_of, IsShown, IsStatus, IsWell, Shows, IsForPeople, IsForTools, IsExplained, IsFor, IsHelp, AreNotes, unreadable, with_notes}
-use Rattle.marlowe_commands.specs.Tasks.{AsksFor, AsksForAlarms, IsOfLine, IsTrace, MayAlarm, SaysAnalysis, SaysNext, SaysPlay, analysis_status, face_by, face_of, stream_of, refusal_by, run_said, table_said, trace_said, play_status, play_refusal, well_status}
+use Rattle.marlowe_commands.specs.Tasks.{AsksFor, AsksForAlarms, IsOfLine, IsTrace, MayAlarm, SaysAnalysis, SaysNext, SaysPlay, analysis_status, face_by, face_of, outcomes, stream_of, refusal_by, run_said, table_answer, table_said, trace_said, play_status, play_refusal, well_status}
 use Rattle.marlowe_commands.proofs.NoteLemmas.{both}
 use Rattle.marlowe_commands.proofs.TaskLemmas.{asks_alarms, asks_no_stream, asks_trace, wants_face}
 
@@ -47,6 +52,32 @@ pub shown_by : {E : Type 0} (face : Face) (Says : Saying → Type 0) (Tells : Sp
 shown_by face Says Tells said told (Ok printed) so tells (inl is) = record { said = said; is_said = so; told = told; tells = tells; is = is }
 shown_by face Says Tells said told (Ok printed) so tells (inr is) = record { said = said; is_said = so; told = []; tells = inl refl; is = is }
 shown_by face Says Tells said told (Err refused) so tells is = tt {0}
+
+-- what a run or a table answers, and what it refuses
+module _ {F : Type 0} (printed : Result (List ℕ) F) (Tells : List ℕ → Type 0) (made : Reasoned F) where
+  pub answered : (text : Vec ℕ Global) → made ≡ Answer text → IsReasoned printed Tells made → printed ≡ Ok text.items
+  answered text is it = subst (IsReasoned printed Tells) is it
+
+  pub refused : (fault : F) (told : Vec ℕ Global) → made ≡ Refused fault told → IsReasoned printed Tells made
+      → (printed ≡ Err fault) × ((told.items ≡ []) ⊎ Tells told.items)
+  refused fault told is it = subst (IsReasoned printed Tells) is it
+
+-- what is said of it
+pub run_answers : (big : Bool) (printed : Result (List ℕ) RunFault) (text told : List ℕ) → printed ≡ Ok text → told ≡ outcomes big text
+    → says told 0 ≡ run_said big printed
+run_answers big printed text told is same = ap (λ t. says t 0) same ∙ ap (run_said big) (sym is)
+
+pub run_refuses : (big : Bool) (printed : Result (List ℕ) RunFault) (f : RunFault) (said : Saying) → printed ≡ Err f
+    → said ≡ refuses [] (refusal_by (fault.Run f)) → said ≡ run_said big printed
+run_refuses big printed f said is refused = refused ∙ ap (run_said big) (sym is)
+
+pub table_answers : (face : Face) (printed : Result (List ℕ) TableFault) (text told : List ℕ) → printed ≡ Ok text → told ≡ table_answer face text
+    → says told 0 ≡ table_said face printed
+table_answers face printed text told is same = ap (λ t. says t 0) same ∙ ap (table_said face) (sym is)
+
+pub table_refuses : (face : Face) (printed : Result (List ℕ) TableFault) (f : TableFault) (said : Saying) → printed ≡ Err f
+    → said ≡ refuses [] (refusal_by (fault.Table f)) → said ≡ table_said face printed
+table_refuses face printed f said is refused = refused ∙ ap (table_said face) (sym is)
 
 -- the line of a refusal behind a text, with what is told of it or without it
 pub line_behind : (text members told line whole : List ℕ) (status : ℕ) (people : List ℕ × ℕ) (slice other : List ℕ) (streams : Streams)

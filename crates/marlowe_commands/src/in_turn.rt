@@ -1,17 +1,15 @@
 //! The scenarios of requests, played one plan after another.
-ghost use Rattle.std.specs.Prelude.{◌≡◌, Ok, Err, IfOk, option_map};
+ghost use Rattle.std.specs.Prelude.{◌≡◌, [], Ok, Err, IfOk, option_map};
 ghost use Rattle.std.specs.Thread.{IsSync};
 ghost use Rattle.json_tree.specs.View.{view};
-ghost use Rattle.serve.specs.Requests.Ids.{SpellsId};
 ghost use Rattle.serve.specs.Playing.{answer_seen};
-ghost use Rattle.marlowe_commands.specs.Serving.{TellsAt, TellsOfText, TellsPlay};
+ghost use Rattle.marlowe_commands.specs.Serving.{MayExplain, TellsAt, TellsOfValue, TellsPlay};
 ghost use Rattle.marlowe_commands.specs.Tasks.{play_members};
 
 use crate::tasks::play_members;
 use json_tree::{Json, JsonValue};
-use marlowe_play::{Asked, Face, JsonFault, Memory, NoWatch, PlayFault, Played, play_asked};
-use marlowe_run::Readable;
-use serve::{PlayAnswer, Player, value_of};
+use marlowe_play::{Asked, Face, JsonFault, Memory, NoWatch, PlayFault, Played, play_value};
+use serve::{PlayAnswer, Player, scenario_told};
 use std::alloc::{AllocError, Global};
 use std::sync::Wait;
 use std::thread::Threads;
@@ -28,13 +26,8 @@ impl<R: Threads + Wait + Sync> Player for InTurn<'_, R> {
 
     ghost tells = { TellsPlay };
 
-    fn play(
-        &self,
-        alloc: Global,
-        readable: Readable,
-        body: &Json<'_>,
-    ) -> Result<PlayAnswer, Memory> {
-        played_at(self.rt, alloc, readable.depth, body.member("scenario"))
+    fn play(&self, alloc: Global, body: &Json<'_>) -> Result<PlayAnswer, Memory> {
+        played_at(self.rt, alloc, body.member("scenario"))
     }
 }
 
@@ -42,49 +35,61 @@ impl<R: Threads + Wait + Sync> Player for InTurn<'_, R> {
 fn played_at<R: Threads + Wait + Sync>(
     rt: &R,
     alloc: Global,
-    depth: usize,
     scenario: Option<&Json<'_>>,
 ) -> Result<PlayAnswer, Memory>
-    ensures { IfOk result (λ answer. TellsAt depth (option_map (λ json. view json.now) scenario.entry) (answer_seen answer)) }
+    ensures { IfOk result (λ answer. TellsAt (option_map (λ json. view json.now) scenario.entry) (answer_seen answer)) }
 {
     match scenario {
-        Some(json) => {
-            let text = spelled(alloc, json)?;
-            played_text(rt, alloc, depth, text.as_slice())
+        Some(json) => played_value(rt, alloc, json),
+        None => {
+            let fault = PlayFault::Scenario(JsonFault::NoForm);
+            refused(alloc, &fault, Vec::new(alloc))
         }
-        None => refused(alloc, &PlayFault::Scenario(JsonFault::NoForm)),
     }
 }
 
-// A text that has the value.
-fn spelled(alloc: Global, json: &Json<'_>) -> Result<Vec<u8>, Memory>
-    ensures { IfOk result (λ text. SpellsId (view json.now) text.items) }
-{
-    let value = value_of(alloc, json)?;
-    let text = value.to_string(alloc)?;
-    Ok(text.into_bytes())
-}
-
-// What is told of a scenario's text.
-fn played_text<R: Threads + Wait + Sync>(
+// What is told of a scenario as JSON.
+fn played_value<R: Threads + Wait + Sync>(
     rt: &R,
     alloc: Global,
-    depth: usize,
-    text: &[u8],
+    json: &Json<'_>,
 ) -> Result<PlayAnswer, Memory>
-    ensures { IfOk result (λ answer. TellsOfText depth text.now (answer_seen answer)) }
+    ensures { IfOk result (λ answer. TellsOfValue (view json.now) (answer_seen answer)) }
 {
+    // how deep it nests was asked of its line
     let asked = Asked {
         one: true,
         face: Face::Objects,
-        depth,
+        depth: 127,
         strict: false,
         kept_open: &[],
     };
-    match play_asked(rt, alloc, text, asked, &NoWatch) {
+    match play_value(rt, alloc, json, asked, &NoWatch) {
         Ok(played) => Ok(told_of(played)),
         Err(PlayFault::Memory) => Err(AllocError),
-        Err(fault) => refused(alloc, &fault),
+        Err(fault) => {
+            let told = why(alloc, &fault, json);
+            refused(alloc, &fault, told)
+        }
+    }
+}
+
+// Why it isn't read, if it isn't: nothing for want of memory.
+fn why(alloc: Global, fault: &PlayFault, json: &Json<'_>) -> Vec<u8>
+    ensures { MayExplain (view json.now) result.items }
+{
+    match fault {
+        PlayFault::Scenario(_) => told_or_nothing(alloc, json),
+        PlayFault::Setup(_) | PlayFault::Memory => Vec::new(alloc),
+    }
+}
+
+fn told_or_nothing(alloc: Global, json: &Json<'_>) -> Vec<u8>
+    ensures { MayExplain (view json.now) result.items }
+{
+    match scenario_told(alloc, json) {
+        Ok(told) => told,
+        Err(_) => Vec::new(alloc),
     }
 }
 
@@ -96,9 +101,10 @@ fn told_of(played: Played) -> PlayAnswer
     PlayAnswer::Told(text)
 }
 
-// Why it isn't played.
-fn refused(alloc: Global, fault: &PlayFault) -> Result<PlayAnswer, Memory>
-    ensures { IfOk result (λ answer. answer_seen answer ≡ Err (play_members fault.now)) }
+// Why it isn't played, and what explains that.
+fn refused(alloc: Global, fault: &PlayFault, told: Vec<u8>) -> Result<PlayAnswer, Memory>
+    ensures { IfOk result (λ answer. answer_seen answer ≡ Err (play_members fault.now, told.items)) }
 {
-    Ok(PlayAnswer::Refused(play_members(alloc, fault)?))
+    let members = play_members(alloc, fault)?;
+    Ok(PlayAnswer::Refused(members, told))
 }

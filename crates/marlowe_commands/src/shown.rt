@@ -15,11 +15,14 @@ ghost use Rattle.marlowe_commands.specs.Tasks.{SaysAnalysis, SaysNext, SaysPlay,
 
 use crate::face::Face;
 use crate::printed::Printed;
-use crate::tasks::{analysis_said, next_said, play_said, run_said, table_said, trace_said};
-use marlowe_play::{Memory, Watch};
+use crate::said::Said;
+use crate::tasks::{
+    analysis_said, next_said, outcomes, play_said, run_said, table_answer, table_said, trace_said,
+};
+use marlowe_play::{Fault, Memory, Watch};
 use marlowe_run::Readable;
-use refusal_reasons::reasons;
-use serve::{Behind, Over, Source, Sources, Telling, scenario_reasons, table_reasons, text_if};
+use refusal_reasons::{Reasoned, reasons, run_reasoned, table_reasoned};
+use serve::{Behind, Over, Source, Sources, Telling, scenario_reasons, text_if};
 use std::alloc::Global;
 use std::sync::Wait;
 use std::thread::Threads;
@@ -59,6 +62,28 @@ pub fn run_shown(
         (λ said. said ≡ run_said big (run_within readable contract.entry.text.now state.entry.text.now transaction.entry.text.now))
         (Tells contract.entry (Some state.entry) readable (behind.One transaction.entry)) (streams_of printed)) }
 {
+    match face {
+        Face::Plain => run_plain(alloc, contract, state, transaction, readable, big, face),
+        Face::Explained | Face::Json => {
+            run_explained(alloc, contract, state, transaction, readable, big, face)
+        }
+    }
+}
+
+// .. where nothing is explained.
+fn run_plain(
+    alloc: Global,
+    contract: Source<'_>,
+    state: Source<'_>,
+    transaction: Source<'_>,
+    readable: Readable,
+    big: bool,
+    face: Face,
+) -> Result<Printed, Memory>
+    ensures { IfOk result (λ printed. IsShown face
+        (λ said. said ≡ run_said big (run_within readable contract.entry.text.now state.entry.text.now transaction.entry.text.now))
+        (Tells contract.entry (Some state.entry) readable (behind.One transaction.entry)) (streams_of printed)) }
+{
     let said = run_said(
         alloc,
         contract.text,
@@ -67,10 +92,35 @@ pub fn run_shown(
         readable,
         big,
     )?;
-    let wanted = said.is_explained(face);
-    let behind = Behind::One(transaction);
-    let told = reasons_if(alloc, wanted, contract, Some(state), readable, behind, face);
-    said.shown(alloc, face, &told)
+    said.shown(alloc, face, &Vec::new(alloc))
+}
+
+// .. where a refusal is explained: each text is read once.
+fn run_explained(
+    alloc: Global,
+    contract: Source<'_>,
+    state: Source<'_>,
+    transaction: Source<'_>,
+    readable: Readable,
+    big: bool,
+    face: Face,
+) -> Result<Printed, Memory>
+    ensures { IfOk result (λ printed. IsShown face
+        (λ said. said ≡ run_said big (run_within readable contract.entry.text.now state.entry.text.now transaction.entry.text.now))
+        (Tells contract.entry (Some state.entry) readable (behind.One transaction.entry)) (streams_of printed)) }
+{
+    let spelling = face.spelling();
+    match run_reasoned(alloc, contract, state, transaction, readable, spelling)? {
+        Reasoned::Answer(text) => {
+            let lines = outcomes(alloc, text, big)?;
+            let said = Said::Text(lines, 0);
+            said.shown(alloc, face, &Vec::new(alloc))
+        }
+        Reasoned::Refused(fault, told) => {
+            let said = Said::refused(alloc, Vec::new(alloc), &Fault::Run(fault))?;
+            said.shown(alloc, face, &told)
+        }
+    }
 }
 
 /// What is printed for transactions one after another: the outcome of each, or of the last alone, with big numbers as texts where they are wanted
@@ -143,20 +193,46 @@ pub fn table_shown(
     ensures { IfOk result (λ printed. IsShown face (λ said. said ≡ table_said face (table_text_within depth contract.entry.text.now))
         (TellsOfTable contract.entry depth) (streams_of printed)) }
 {
-    let said = table_said(alloc, contract.text, depth, face)?;
-    let told = table_if(alloc, said.is_explained(face), contract, depth, face);
-    said.shown(alloc, face, &told)
+    match face {
+        Face::Plain => table_plain(alloc, contract, depth, face),
+        Face::Explained | Face::Json => table_explained(alloc, contract, depth, face),
+    }
 }
 
-fn table_if(alloc: Global, wanted: bool, contract: Source<'_>, depth: usize, face: Face) -> Vec<u8>
-    ensures { (result.items ≡ []) ⊎ TellsOfTable contract.entry depth (spelling_of face) result.items }
+// .. where nothing is explained.
+fn table_plain(
+    alloc: Global,
+    contract: Source<'_>,
+    depth: usize,
+    face: Face,
+) -> Result<Printed, Memory>
+    ensures { IfOk result (λ printed. IsShown face (λ said. said ≡ table_said face (table_text_within depth contract.entry.text.now))
+        (TellsOfTable contract.entry depth) (streams_of printed)) }
 {
-    if !wanted {
-        return Vec::new(alloc);
-    }
-    match table_reasons(alloc, contract, depth, face.spelling()) {
-        Ok(told) => told,
-        Err(_) => Vec::new(alloc),
+    let said = table_said(alloc, contract.text, depth, face)?;
+    said.shown(alloc, face, &Vec::new(alloc))
+}
+
+// .. where a refusal is explained: the text is read once.
+fn table_explained(
+    alloc: Global,
+    contract: Source<'_>,
+    depth: usize,
+    face: Face,
+) -> Result<Printed, Memory>
+    ensures { IfOk result (λ printed. IsShown face (λ said. said ≡ table_said face (table_text_within depth contract.entry.text.now))
+        (TellsOfTable contract.entry depth) (streams_of printed)) }
+{
+    match table_reasoned(alloc, contract, depth, face.spelling())? {
+        Reasoned::Answer(text) => {
+            let lines = table_answer(alloc, text, face)?;
+            let said = Said::Text(lines, 0);
+            said.shown(alloc, face, &Vec::new(alloc))
+        }
+        Reasoned::Refused(fault, told) => {
+            let said = Said::refused(alloc, Vec::new(alloc), &Fault::Table(fault))?;
+            said.shown(alloc, face, &told)
+        }
     }
 }
 

@@ -23,5 +23,5 @@ pub use json_read_names::JsonFault;
 pub use parties::{Memory, NoWatch, Watch};
 pub use play_endings::{Fault, RunFault, TableFault, TraceFault, json_fault_name, refusal};
 pub use play_setup::{Cause, SetupRefusal, setup_members};
-pub use playing::{How, play, play_asked, play_watched};
+pub use playing::{How, play, play_asked, play_value, play_watched};
 pub use refusal_line::play_refusal;

@@ -13,9 +13,12 @@ use crate::asked::{Asked, Face, Played};
 use crate::fault::PlayFault;
 use crate::lines::played_text;
 use crate::turns::{play_turns, seats_of, take_first, turns_of};
+use json_tree::JsonValue;
 use parties::{Hub, LeftOut, NoWatch, Opening, Seat, Session, Watch};
 use play_endings::Scenario;
-use play_setup::{Stage, first_chain, read_scenario, read_scenario_within, set_up};
+use play_setup::{
+    Stage, first_chain, read_scenario, read_scenario_within, scenario_from_json, set_up,
+};
 use std::alloc::Global;
 use std::marker::Brand;
 use std::sync::Wait;
@@ -113,6 +116,25 @@ pub fn play_asked<R: Threads + Wait + Sync, W: Watch + Sync>(
         (wanted asked.entry.face asked.entry.strict (map (λ s. s.now) asked.entry.kept_open.now)) p.text.items p.well) }
 {
     let scenario = match read_scenario_within(alloc, text, asked.depth) {
+        Ok(scenario) => scenario,
+        Err(fault) => return Err(PlayFault::of_scenario(fault)),
+    };
+    play_scenario(rt, alloc, &scenario, asked, watch)
+}
+
+/// The same for a scenario that stands in a JSON value. How deep that may nest is asked where it is read, so here `depth` asks nothing.
+pub fn play_value<R: Threads + Wait + Sync, W: Watch + Sync, J: JsonValue>(
+    rt: &R,
+    alloc: Global,
+    json: &J,
+    asked: Asked<'_>,
+    watch: &W,
+) -> Result<Played, PlayFault>
+    ensures unread { IsRefused (reads.scenario (J.json json.now)) result }
+    ensures played { IfOk result (λ p. IsAnswered (reads.scenario (J.json json.now))
+        (wanted asked.entry.face asked.entry.strict (map (λ s. s.now) asked.entry.kept_open.now)) p.text.items p.well) }
+{
+    let scenario = match scenario_from_json(alloc, json) {
         Ok(scenario) => scenario,
         Err(fault) => return Err(PlayFault::of_scenario(fault)),
     };

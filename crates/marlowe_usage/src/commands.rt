@@ -24,7 +24,7 @@ pub fn command_line<'a>(alloc: Global) -> Result<Command<'a>, AllocError>
 }
 
 // The program's own version, and behind it the toolchain's line, with the logic in which what it stands on is proved.
-const VERSION: &str = "0.1.0 (rattle-kit-13b logic dac8208d650f15bf)";
+const VERSION: &str = "0.1.0 (rattle-kit-13f logic dac8208d650f15bf)";
 
 // The program without its commands.
 fn program<'a>(alloc: Global) -> Draft<'a>

@@ -16,7 +16,7 @@ mod starts;
 
 pub use fault::SetupFault;
 pub use genesis::{first_chain, key_outputs};
-pub use json_read_scenarios::{read_scenario, read_scenario_within};
+pub use json_read_scenarios::{read_scenario, read_scenario_within, scenario_from_json};
 pub use marlowe_refusals::json_fault_name;
 pub use naming::plan_on;
 pub use parties::BuildFault;

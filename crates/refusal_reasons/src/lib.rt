@@ -15,7 +15,7 @@ mod texts;
 
 pub use explanations::{
     Json, JsonValue, Numbers, ScenarioSort, Sort, Spelling, Spot, Stop, Told, first_stop,
-    from_slice, has, keys_in, part_members, put_next,
+    from_slice, has, keys_in, part_members, put_next, scenario_stop,
 };
 pub use marlowe_explain::{Asked, Fault, Readable, TraceFault, beside_dropped, next, next_after};
 pub use reasoned::{Reasoned, run_reasoned, table_reasoned};

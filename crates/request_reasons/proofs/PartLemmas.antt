@@ -13,12 +13,20 @@ use Rattle.refusal_reasons.specs.ToldParts.Members.{part_members}
 use Rattle.refusal_reasons.specs.Explanations.Indexes.{keys_in}
 use Rattle.request_reasons.specs.Parts.{BeginsWith, IsToldAt, TellsPart, told_at}
 use Rattle.request_reasons.specs.PartsSupport.{place_of}
+use Rattle.request_reasons.specs.Scenarios.{TellsScenario}
+use Rattle.refusal_reasons.specs.ScenarioStops.Stops.{IsScenarioStop}
 
 pub stop_told : (sort : Sort) (d : Data) (at : Place) (written : List ℕ) → IsStop sort d (Some at) → IsToldAt at written → TellsPart sort d written
 stop_told sort d at written stops told = record { place = Some at; stops = stops; tells = told }
 
 pub none_told : (sort : Sort) (d : Data) (written : List ℕ) → IsStop sort d None → written ≡ [] → TellsPart sort d written
 none_told sort d written stops is = record { place = None; stops = stops; tells = is }
+
+pub scenario_stop_told : (d : Data) (at : Place) (written : List ℕ) → IsScenarioStop d (Some at) → IsToldAt at written → TellsScenario d written
+scenario_stop_told d at written stops told = record { place = Some at; stops = stops; tells = told }
+
+pub no_scenario_stop_told : (d : Data) (written : List ℕ) → IsScenarioStop d None → written ≡ [] → TellsScenario d written
+no_scenario_stop_told d written stops is = record { place = None; stops = stops; tells = is }
 
 -- the text of a number is its token
 pub number_begins : (n : Num) (text : List ℕ) → SpellsId (number n) text → BeginsWith (number n) (Token.number text)

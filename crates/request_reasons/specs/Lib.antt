@@ -1,4 +1,5 @@
 pub mod Parts
+pub mod Scenarios
 pub mod Reasons
 pub mod Rows
 pub mod PartsSupport

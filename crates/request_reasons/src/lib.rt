@@ -12,6 +12,7 @@ mod values;
 
 pub use definitions::{DefineFault, Definition, Definitions};
 pub use laws::worked_reasons;
+pub use parts::scenario_told;
 pub use refusal_reasons::{
     Asked, Behind, Json, JsonValue, Numbers, Over, ScenarioSort, Sort, Source, Sources, Spelling,
     from_slice, next, next_after, put_next, scenario_reasons, table_reasons, text_if,

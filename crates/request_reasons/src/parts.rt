@@ -9,11 +9,14 @@ ghost use Rattle.refusal_reasons.specs.Explanations.Indexes.{keys_in};
 ghost use Rattle.requests.specs.Ids.{SpellsId};
 ghost use Rattle.request_reasons.specs.Parts.{BeginsWith, IsToldAt, TellsAny, TellsAt, TellsPart, told_at};
 ghost use Rattle.request_reasons.specs.PartsSupport.{place_of};
+ghost use Rattle.request_reasons.specs.Scenarios.{TellsScenario};
 
 use contract::Memory;
 use json::Token;
 use json_tree::{Json, JsonValue};
-use refusal_reasons::{Sort, Spot, Stop, Told, first_stop, keys_in, part_members};
+use refusal_reasons::{
+    Sort, Spot, Stop, Told, first_stop, keys_in, part_members, scenario_stop,
+};
 use serde_json::{Number, Value};
 use std::alloc::Global;
 
@@ -48,6 +51,18 @@ pub(crate) fn part_told(alloc: Global, sort: Sort, json: &Json<'_>) -> Result<Ve
     ensures { IfOk result (λ written. TellsPart sort (view json.now) written.items) }
 {
     let found = first_stop(alloc, sort, json)?;
+    match found {
+        Some((stop, part)) => place_told(alloc, &stop, part),
+        None => Ok(Vec::new(alloc)),
+    }
+}
+
+/// Why a value isn't read as a scenario, as members of the object that says that it is refused: the place at which reading stops, what is
+/// wanted there and what stands there. There are no bytes where it is read. `Memory` where memory was refused.
+pub fn scenario_told(alloc: Global, json: &Json<'_>) -> Result<Vec<u8>, Memory>
+    ensures { IfOk result (λ written. TellsScenario (view json.now) written.items) }
+{
+    let found = scenario_stop(alloc, json)?;
     match found {
         Some((stop, part)) => place_told(alloc, &stop, part),
         None => Ok(Vec::new(alloc)),

@@ -120,7 +120,7 @@ module _ (plays : Plays) (r : Readable) (defs after : List Definition) (bytes : 
   pub forgets : WithReason (May kinds.Forget) (Forgets defs id (as_str body) text after) → Asked kinds.Forget
   forgets h = stays kinds.Forget (Forgets defs id (as_str body) text after) (λ reason is. is) h
 
-  pub plays_on : AnswersPlay (plays r body) id text → after ≡ defs → Asked kinds.Play
+  pub plays_on : AnswersPlay (plays body) id text → after ≡ defs → Asked kinds.Play
   unfolding AnswersAsked
   plays_on h same = with_none r defs kinds.Play body (TellsAsked plays r defs bytes kinds.Play body id text after) (h, same)
 

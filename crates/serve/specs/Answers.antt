@@ -40,7 +40,7 @@ TellsAsked plays r defs bytes kinds.Read body id text after reason = Stays defs 
 TellsAsked plays r defs bytes kinds.Bytes body id text after reason = Stays defs after (text ≡ answered id (bytes_told r.text_numbers defs body) reason)
 TellsAsked plays r defs bytes kinds.Define body id text after reason = Changes bytes defs id (definition_told body) text after reason
 TellsAsked plays r defs bytes kinds.Forget body id text after reason = Forgets defs id (as_str body) text after reason
-TellsAsked plays r defs bytes kinds.Play body id text after reason = Stays defs after (AnswersPlay (plays r body) id text)
+TellsAsked plays r defs bytes kinds.Play body id text after reason = Stays defs after (AnswersPlay (plays body) id text)
 
 -- .. with one that may be told of it
 unfoldable pub AnswersAsked : Plays → Readable → List Definition → ℕ → Kind → Data → List ℕ → List ℕ → List Definition → Type 0

@@ -20,5 +20,5 @@ pub use Rattle.marlowe_trace.specs as MarloweTrace
 pub use Rattle.marlowe_analyse.specs as MarloweAnalyse
 pub use Rattle.request_reasons.specs.MarloweNext
 pub use Rattle.request_reasons.specs.RefusalReasons
-pub use Rattle.request_reasons.specs.Requests
+pub use Rattle.request_reasons.specs.Scenarios
 pub use Rattle.lines_in.specs as LinesIn

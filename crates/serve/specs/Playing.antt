@@ -1,32 +1,31 @@
 -- What a play is answered.
 use Rattle.std.specs.Prelude.{◌≡◌, ℕ, List, [], ◌++◌, Result, Ok, Err, codes}
 use Rattle.serde_json.specs.Data.{Data}
-use Rattle.marlowe_run.specs.declared.readable.Readable.{Readable}
 use Rattle.refusal_objects.specs.Objects.{named, refused_object}
 use Rattle.request_reasons.specs.RequestParts.Answered.{begun, listed, ok_answer}
 use Rattle.serve.specs.declared.player.PlayAnswer.{PlayAnswer}
 use Rattle.serve.specs.declared.player.PlayAnswer.TheVariants.{Told, Refused}
 
--- the lines that tell of a play, or the members of its refusal
+-- the lines that tell of a play, or the members of its refusal and of what explains it
 abbrev pub PlayTold : Type 0
-PlayTold = Result (List ℕ) (List ℕ)
+PlayTold = Result (List ℕ) (List ℕ × List ℕ)
 
 abbrev pub answer_seen : PlayAnswer → PlayTold
 answer_seen (Told lines) = Ok lines.items
-answer_seen (Refused members) = Err members.items
+answer_seen (Refused members told) = Err (members.items, told.items)
 
 -- what may be told of what stands at `play`
 abbrev pub Plays : Type 1
-Plays = Readable → Data → PlayTold → Type 0
+Plays = Data → PlayTold → Type 0
 
 -- nobody plays
-abbrev pub no_play : Readable → Data → PlayTold → Type 0
-no_play r body told = told ≡ Err (named (codes "play") (codes "Unsupported"))
+abbrev pub no_play : Data → PlayTold → Type 0
+no_play body told = told ≡ Err (named (codes "play") (codes "Unsupported"), [])
 
 -- the lines as a list, or why there are none
 abbrev pub played_answer : List ℕ → PlayTold → List ℕ
 played_answer id (Ok lines) = ok_answer id (listed lines)
-played_answer id (Err members) = begun id ++ (codes ",\"refused\":" ++ (refused_object members [] ++ codes "}\n"))
+played_answer id (Err refused) = begun id ++ (codes ",\"refused\":" ++ (refused_object refused.0 refused.1 ++ codes "}\n"))
 
 -- an answer under an id to what is told so
 unfoldable pub AnswersPlay : (PlayTold → Type 0) → List ℕ → List ℕ → Type 0

@@ -30,7 +30,7 @@ pub use player::{NoPlayer, PlayAnswer, Player};
 pub use refusal_objects::{members, named_members, refused_line, status};
 pub use request_reasons::{
     Behind, Definitions, Json, JsonValue, Numbers, Over, ScenarioSort, Sort, Source, Sources,
-    Spelling, from_slice, next, put_next, reasons, scenario_reasons, table_reasons, text_if,
-    value_of,
+    Spelling, from_slice, next, put_next, reasons, scenario_reasons, scenario_told, table_reasons,
+    text_if,
 };
 pub use stream::{Ended, serve, serve_with};

@@ -155,7 +155,7 @@ fn request_answer<P: Player>(
         Kind::Define => define(alloc, readable, definitions, bytes, body, id),
         Kind::Forget => forget(alloc, readable, definitions, body, id),
         Kind::Bytes => bytes_answer(alloc, readable, definitions, body, id),
-        Kind::Play => play_answer(alloc, player, readable, body, id),
+        Kind::Play => play_answer(alloc, player, body, id),
     }
 }
 
@@ -305,14 +305,13 @@ fn trace_answer(
 fn play_answer<P: Player>(
     alloc: Global,
     player: &P,
-    readable: Readable,
     body: &Json<'_>,
     id: &[u8],
 ) -> Result<Vec<u8>, Memory>
     requires { P.may player.now }
-    ensures { IfOk result (λ text. AnswersPlay (P.tells readable (view body.now)) id.now text.items) }
+    ensures { IfOk result (λ text. AnswersPlay (P.tells (view body.now)) id.now text.items) }
 {
-    let answer = player.play(alloc, readable, body)?;
+    let answer = player.play(alloc, body)?;
     played_answer(alloc, &answer, id)
 }
 
@@ -322,15 +321,22 @@ fn played_answer(alloc: Global, answer: &PlayAnswer, id: &[u8]) -> Result<Vec<u8
 {
     match answer {
         PlayAnswer::Told(lines) => traced_answer(alloc, id, lines.as_slice(), None, b""),
-        PlayAnswer::Refused(members) => refused_play(alloc, id, members.as_slice()),
+        PlayAnswer::Refused(members, told) => {
+            refused_play(alloc, id, members.as_slice(), told.as_slice())
+        }
     }
 }
 
 // Why nothing is played.
-fn refused_play(alloc: Global, id: &[u8], members: &[u8]) -> Result<Vec<u8>, Memory>
-    ensures { IfOk result (λ text. text.items ≡ played_answer id.now (Err members.now)) }
+fn refused_play(
+    alloc: Global,
+    id: &[u8],
+    members: &[u8],
+    told: &[u8],
+) -> Result<Vec<u8>, Memory>
+    ensures { IfOk result (λ text. text.items ≡ played_answer id.now (Err (members.now, told.now))) }
 {
-    let object = refused_object(alloc, members, b"")?;
+    let object = refused_object(alloc, members, told)?;
     let mut line = Vec::from_slice(alloc, b"{\"id\":")?;
     line.extend_from_slice(id)?;
     line.extend_from_slice(b",\"refused\":")?;
