@@ -13,7 +13,8 @@ them spoiled in the ways of spoiled.py, and texts with the keys of two forms, of
 - that an outcome, an answer of `next --json`, `table --json` and `analyse --json`, and a refusal has its form; and that it has none once a key
   of it is taken away, but for those that are there only where they are asked for.
 - of the rows in crates/rows_serve: that each answer has its form, and what stands at `ok` the form of what was asked; that a request with an `ok` has its form,
-  and a line that is no request, or in which something but a state is NoForm, has none. A schema allows texts for numbers of a state.
+  and a line that is no request, or in which something but a state or a name of a scenario is NoForm, has none. A schema allows texts for numbers of a
+  state.
 
 A schema is JSON Schema, draft 7, of these words alone, which are checked here: `type`, `required`, `properties`, `items`, `minItems`, `maxItems`, `enum`, `pattern`,
 `if`, `then`, `else`, `$ref`, and `definitions`, `title`, `$schema` beside them. As that draft says, what stands beside a `$ref` is passed over.
@@ -353,8 +354,14 @@ def faults_of_answer(line, answer):
         yield f"request.json: {line[:400]}: is answered and has no form"
     if "ok" in answer and not has_form("answer.json", {"$ref": schema_of_ok(asked)}, answer["ok"]):
         yield f"{schema_of_ok(asked)}: {json.dumps(answer)[:400]}: is printed and has no form"
-    if "ok" not in answer and is_request and "define" not in asked and answer["refused"]["name"] in ("NoObject", "NoRequest", "NoForm") and answer["refused"]["of"] != "state":
+    if "ok" not in answer and is_request and wants_form(asked, answer["refused"]):
         yield f"request.json: {line[:400]}: has a form and is refused as {answer['refused']['name']}"
+
+
+def wants_form(asked, refused):
+    """Whether a request that is refused so lacks a form, as far as a schema tells: it doesn't know which names a scenario has."""
+    of_a_name = refused.get("wanted", "").endswith((" of the scenario", "new name"))
+    return refused["name"] in ("NoObject", "NoRequest", "NoForm") and refused["of"] != "state" and "define" not in asked and not of_a_name
 
 
 def lines_and_answers():
