@@ -1,3 +1,2 @@
 -- Lemmas of `eutxo`, passed on.
-pub use Rattle.eutxo.proofs.DatumLemmas
 pub use Rattle.eutxo.proofs.SameRefLaws
