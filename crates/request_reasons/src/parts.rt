@@ -14,9 +14,7 @@ ghost use Rattle.request_reasons.specs.Scenarios.{TellsScenario};
 use contract::Memory;
 use json::Token;
 use json_tree::{Json, JsonValue};
-use refusal_reasons::{
-    Sort, Spot, Stop, Told, first_stop, keys_in, part_members, scenario_stop,
-};
+use refusal_reasons::{Sort, Spot, Stop, Told, first_stop, keys_in, part_members, scenario_stop};
 use serde_json::{Number, Value};
 use std::alloc::Global;
 

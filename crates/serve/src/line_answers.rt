@@ -328,12 +328,7 @@ fn played_answer(alloc: Global, answer: &PlayAnswer, id: &[u8]) -> Result<Vec<u8
 }
 
 // Why nothing is played.
-fn refused_play(
-    alloc: Global,
-    id: &[u8],
-    members: &[u8],
-    told: &[u8],
-) -> Result<Vec<u8>, Memory>
+fn refused_play(alloc: Global, id: &[u8], members: &[u8], told: &[u8]) -> Result<Vec<u8>, Memory>
     ensures { IfOk result (λ text. text.items ≡ played_answer id.now (Err (members.now, told.now))) }
 {
     let object = refused_object(alloc, members, told)?;
