@@ -1,5 +1,5 @@
 //! The analysis of a contract, from text to text.
-ghost use Rattle.std.specs.Prelude.{◌≡◌, true, not, ◌||◌, map, All, IfOk, IfSome, option_map};
+ghost use Rattle.std.specs.Prelude.{◌≡◌, true, not, ◌||◌, map, All, IfOk, IfSome};
 ghost use Rattle.contract.specs.Collections.Answers.{AsideBy};
 ghost use Rattle.contract.specs.Tree.{contract_tree};
 ghost use Rattle.analysis_spec.specs.Promises.{StaysWithin128};
@@ -65,10 +65,10 @@ pub fn analyse_text(
     state: Option<&[u8]>,
     readable: Readable,
     telling: Telling,
-    party: Option<&Party>,
+    party: &Option<Party>,
 ) -> Result<Analysed, RunFault>
     ensures told { IfOk result (λ told.
-        TellsSo telling (option_map (λ p. p.now) party.entry) readable contract.now (text_given state.entry) told.is_clear told.has_unreached told.text.items) }
+        TellsSo telling party.now readable contract.now (text_given state.entry) told.is_clear told.has_unreached told.text.items) }
     ensures clear { IfOk result (λ told. told.is_clear ≡ true → IsClear readable contract.now (text_given state.entry)) }
     ensures read { AsideBy RunFault.Memory (λ _. tt) result (is_read readable contract.now (text_given state.entry)) }
 {
@@ -91,9 +91,9 @@ fn analysed_from(
     texts: bool,
     length: usize,
     telling: Telling,
-    party: Option<&Party>,
+    party: &Option<Party>,
 ) -> Result<Analysed, RunFault>
-    ensures told { IfOk result (AnalysedFrom telling (option_map (λ p. p.now) party.entry) texts (contract_tree contract.now) (text_given state.entry)) }
+    ensures told { IfOk result (AnalysedFrom telling party.now texts (contract_tree contract.now) (text_given state.entry)) }
     ensures read { AsideBy RunFault.Memory (λ _. tt) result (is_started (start_of texts (text_given state.entry))) }
 {
     match read_start(alloc, state, texts) {
@@ -116,9 +116,9 @@ pub fn analysis_for(
     given: bool,
     length: usize,
     telling: Telling,
-    party: Option<&Party>,
+    party: &Option<Party>,
 ) -> Result<Analysed, Memory>
-    ensures { IfOk result (λ told. TellsFor telling (option_map (λ p. p.now) party.entry) given state.now (contract_tree contract.now)
+    ensures { IfOk result (λ told. TellsFor telling party.now given state.now (contract_tree contract.now)
         told.is_clear told.has_unreached told.text.items) }
 {
     let told = analysis_text(alloc, contract, state, given, length, telling)?;
