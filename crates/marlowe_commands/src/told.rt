@@ -271,11 +271,14 @@ fn analysed(
     readable: Readable,
     telling: Telling,
     strict: bool,
+    party: &Option<Party>,
     face: Face,
 ) -> Result<Printed, Memory>
     ensures { IfOk result (λ printed. Shows face (Unit {0}) ⊥ (streams_of printed)) }
 {
-    analysis_shown(alloc, contract, state, readable, telling, strict, face)
+    analysis_shown(
+        alloc, contract, state, readable, telling, strict, party, face,
+    )
 }
 
 pub fn analysis_told<'a, T: Texts>(
@@ -288,6 +291,11 @@ pub fn analysis_told<'a, T: Texts>(
 {
     let contract = text_of(alloc, texts, task.contract)?;
     let state = text_if(alloc, texts, task.state)?;
+    let party = match party_given(alloc, task.party) {
+        Ok(party) => party,
+        Err(JsonFault::Memory) => return Err(Stop::Memory),
+        Err(fault) => return Ok(unread_party(alloc, task.party, fault, face)?),
+    };
     let telling = telling_of(&task);
     let readable = Readable {
         depth: task.depth,
@@ -295,7 +303,10 @@ pub fn analysis_told<'a, T: Texts>(
     };
     let contract = source(task.contract, &contract);
     let state = source_if(task.state, &state);
-    let printed = analysed(alloc, contract, state, readable, telling, task.strict, face)?;
+    let strict = task.strict;
+    let printed = analysed(
+        alloc, contract, state, readable, telling, strict, &party, face,
+    )?;
     if !has_notes(task.explain, &printed) {
         return Ok(printed);
     }
