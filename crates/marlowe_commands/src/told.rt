@@ -8,12 +8,14 @@ use crate::files::{Gathered, Joined, gather, scenario_joined};
 use crate::noted::{
     contract_notes, noted, put, scenario_notes, state_notes, transaction_notes, transactions_notes,
 };
+use crate::party::{party_given, unread_party};
 use crate::printed::Printed;
 use crate::shown::{analysis_shown, next_shown, play_shown, run_shown, table_shown, trace_shown};
 use crate::stops::{Stop, text_if, text_of, texts_of, unreadable};
 use crate::texts::Texts;
+use contract::Party;
 use marlowe_cli::{AnalyseTask, NextTask, PlayTask, RunTask, TableTask, TraceTask};
-use marlowe_play::{Memory, Watch};
+use marlowe_play::{JsonFault, Memory, Watch};
 use marlowe_run::Readable;
 use scenario_files::{FileName, files_of};
 use serve::{Source, Sources, Telling};
