@@ -132,11 +132,7 @@ fn with_member(
 }
 
 // What is told, as compact JSON.
-fn kept_text(
-    alloc: Global,
-    party: &Party,
-    kept: &Option<Items<Kept>>,
-) -> Result<Vec<u8>, Memory>
+fn kept_text(alloc: Global, party: &Party, kept: &Option<Items<Kept>>) -> Result<Vec<u8>, Memory>
     ensures { IfOk result (λ text. text.items ≡ compact_text (kept_json party.now kept.now)) }
 {
     let mut out = Writer::new(Vec::new(alloc));
