@@ -1,12 +1,13 @@
 -- What is told of a party that keeps up: in lines behind the others for people, or in a last member of the object for tools.
-use Rattle.std.specs.Prelude.{ℕ, ℤ, ◌-◌, Bool, true, false, List, [], ◌∷◌, ◌++◌, flat_map, length, map, take, Option, Some, None, codes}
-use Rattle.std.specs.Fmt.{signed_decimal}
+use Rattle.std.specs.Prelude.{ℕ, ℤ, pos, ◌-◌, int_lt, if◌then◌else◌, Bool, true, false, List, [], ◌∷◌, ◌++◌, flat_map, length, map, take, Option, Some, None, codes}
+use Rattle.std.specs.Fmt.{decimal, signed_decimal}
+use Rattle.std.specs.Int.{unsigned_abs}
 use Rattle.serde_json.specs.Data.{Data, array, null}
 use Rattle.serde_json.specs.View.{items_of}
 use Rattle.serde_json.specs.Written.{compact_text}
 use Rattle.contract.specs.Names.declared.party.Party.{Party}
 use Rattle.json_write_contracts.specs.WrittenNames.{two, three, party_json, token_json}
-use Rattle.losses.specs.declared.kept.Kept.{Kept}
+use Rattle.keeping_up.specs.declared.kept.Kept.{Kept}
 use Rattle.analysis_lines.specs.Lines.{holder_text, loss_text, given_text}
 use Rattle.analysis_lines.specs.Tools.{bound_json}
 
@@ -17,9 +18,17 @@ abbrev pub least_text : Option ℤ → List ℕ
 least_text None = codes "at least not known"
 least_text (Some n) = codes "at least " ++ signed_decimal n
 
--- .. and how much more it brings than it is paid, at most
+-- how much more it brings than it is paid, at most: below 0 it is paid so much more
+abbrev pub up_text : ℤ → List ℕ
+up_text n = codes "at least " ++ (decimal (unsigned_abs n) ++ codes " up")
+
+abbrev pub down_text : Option ℤ → List ℕ
+down_text None = loss_text None
+down_text (Some n) = if int_lt n (pos 0) then up_text n else loss_text (Some n)
+
+-- .. both
 abbrev pub sure_text : Kept → List ℕ
-sure_text k = least_text k.least ++ (codes ", " ++ (loss_text k.most ++ codes " while it keeps up"))
+sure_text k = least_text k.least ++ (codes ", " ++ (down_text k.most ++ codes " while it keeps up"))
 
 abbrev pub kept_line : Bool → Party → Kept → List ℕ
 kept_line given p k = holder_text p k.token ++ (sure_text k ++ given_text given)

@@ -4,7 +4,7 @@ ghost use Rattle.serde_json.specs.Data.{array};
 ghost use Rattle.serde_json.specs.View.{items_of};
 ghost use Rattle.serde_json.specs.Written.{compact_text};
 ghost use Rattle.json_write_contracts.specs.Tokens.{Puts};
-ghost use Rattle.analysis_lines.specs.Kept.{kept_json, kept_line, kept_lines, kept_token_json, least_text, sure_text, tokens_json, with_kept, with_member};
+ghost use Rattle.analysis_lines.specs.Kept.{down_text, kept_json, kept_line, kept_lines, kept_token_json, least_text, sure_text, tokens_json, up_text, with_kept, with_member};
 
 use crate::lines::{loss_text, put_bytes, put_given};
 use crate::reached::put_holder;
@@ -12,7 +12,7 @@ use crate::tools::{put_bound, put_null};
 use contract::{Items, Memory, Party};
 use json::Writer;
 use json_write_contracts::{put_party, put_token};
-use losses::Kept;
+use keeping_up::Kept;
 use std::alloc::Global;
 
 /// A text that tells of an analysis, with what is told of a party that keeps up: for people lines behind the others, each of one token, and
@@ -99,7 +99,7 @@ fn sure_text(alloc: Global, kept: &Kept) -> Result<String, Memory>
     ensures { IfOk result (λ text. string_bytes text ≡ sure_text kept.now) }
 {
     let least = least_text(alloc, kept.least)?;
-    let most = loss_text(alloc, kept.most)?;
+    let most = down_text(alloc, kept.most)?;
     format!(in alloc; "{least}, {most} while it keeps up")
 }
 
@@ -110,6 +110,28 @@ fn least_text(alloc: Global, least: Option<i128>) -> Result<String, Memory>
         Some(least) => format!(in alloc; "at least {least}"),
         None => format!(in alloc; "at least not known"),
     }
+}
+
+fn down_text(alloc: Global, most: Option<i128>) -> Result<String, Memory>
+    ensures { IfOk result (λ text. string_bytes text ≡ down_text most) }
+{
+    match most {
+        Some(most) => {
+            if most < 0 {
+                up_text(alloc, most)
+            } else {
+                loss_text(alloc, Some(most))
+            }
+        }
+        None => loss_text(alloc, None),
+    }
+}
+
+fn up_text(alloc: Global, most: i128) -> Result<String, Memory>
+    ensures { IfOk result (λ text. string_bytes text ≡ up_text most) }
+{
+    let up = most.unsigned_abs();
+    format!(in alloc; "at least {up} up")
 }
 
 // ---- for tools

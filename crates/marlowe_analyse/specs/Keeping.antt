@@ -4,16 +4,16 @@ use Rattle.contract.specs.Names.declared.party.Party.{Party}
 use Rattle.contract.specs.Tree.{ContractTree}
 use Rattle.contract.specs.States.States.{StateMaps}
 use Rattle.analysis_spec.specs.Promises.{StaysWithin128}
-use Rattle.losses.specs.declared.kept.Kept.{Kept}
-use Rattle.losses.specs.Keeping.{AreSure}
+use Rattle.keeping_up.specs.declared.kept.Kept.{Kept}
+use Rattle.keeping_up.specs.Told.{KeepsWithin, OthersAreKept}
 use Rattle.analysis_lines.specs.Kept.{with_kept}
 use Rattle.marlowe_run.specs.declared.readable.Readable.{Readable}
 use Rattle.marlowe_analyse.specs.declared.analysed.Telling.{Telling}
 use Rattle.marlowe_analyse.specs.Printed.{IsReadAs, TellsOfTree}
 
--- what the party is sure of; it isn't told where a number may leave 128 bits
+-- what the party is sure of of each token, and of those that aren't named; it isn't told where a number may leave 128 bits
 abbrev pub IsSure : Party → StateMaps → ContractTree → Bool → Option (List Kept) → Type 0
-IsSure party s c true kept = (all : List Kept) × (kept ≡ Some all) × AreSure party all s c
+IsSure party s c true kept = (all : List Kept) × (kept ≡ Some all) × KeepsWithin party all s c × OthersAreKept party all s c
 IsSure party s c false kept = kept ≡ None
 
 -- what is printed without it, and with it

@@ -21,8 +21,8 @@ use analysis_lines::{Told, json_for_tools, lines_for_people, with_kept};
 use analysis_walk::Analysis;
 use bound_runs::{Shown, with_runs};
 use contract::{Contract, Items, Memory, Party, State};
+use keeping_up::Kept;
 use loss_walk::kept_up;
-use losses::Kept;
 use marlowe_run::{Readable, RunFault, beside_dropped, read_contract_within, read_start};
 use std::alloc::Global;
 
