@@ -1,5 +1,5 @@
 -- What is printed of a contract and a state.
-use Rattle.std.proofs.Common.{◌≡◌, ◌≢◌, ℕ, ℤ, suc, arith, Option, Some, None, option_map, IfSome, Bool, true, false, not, List, [], ◌∷◌, length, map, refl, sym, ap, ◌∙◌, subst}
+use Rattle.std.proofs.Common.{◌≡◌, ◌≢◌, ℕ, ℤ, suc, arith, Option, Some, None, option_map, IfSome, Result, Ok, Err, IfOk, Bool, true, false, not, List, [], ◌∷◌, length, map, refl, sym, ap, ◌∙◌, subst}
 use Rattle.std.specs.Prelude.{All, Contains, ◌||◌, ◌↔◌, ◌==◌, IsTrue}
 use Rattle.std.specs.List.{AllByRecursion}
 use Rattle.std.proofs.lemmas.List.Elements.{All-from_recursion, recursion_from_All, All-contains, All-contains_itself, All-weaker}
@@ -26,7 +26,11 @@ use Rattle.marlowe_analyse.specs.Told.{Alarms, seen_alarm, without_runs, LeastsC
 use Rattle.analysis_lines.specs.ToldLines.{Line, line_at, line_of, with_heads, LineFits}
 use Rattle.marlowe_analyse.specs.OnceSupport.{seen_told}
 use Rattle.marlowe_analyse.specs.Printed.{printed, AreHeadsIf, TellsOfTree}
-use Rattle.marlowe_analyse.specs.Keeping.{TellsFor}
+use Rattle.marlowe_analyse.specs.Keeping.{IsSureFor, TellsFor}
+use Rattle.marlowe_analyse.specs.declared.analysed.Analysed.{Analysed}
+use Rattle.keeping_up.specs.declared.kept.Kept.{Kept}
+use Rattle.analysis_lines.specs.Kept.{with_kept}
+use Rattle.std.specs.declared.alloc.AllocError.{AllocError}
 use Rattle.marlowe_analyse.specs.OnceSupport.{ToldOnce, HaveHeads}
 use Rattle.marlowe_analyse.specs.RunsSupport.{HoldRanges, TellsAll, TellPlaces}
 use Rattle.marlowe_analyse.proofs.UnreachedLemmas.{never_among}
@@ -147,3 +151,26 @@ none_leave s c alarms told clear true t k some e =
 pub stays_within : (s : StateMaps) (c : ContractTree) (alarms : List Alarm) (leaves : Bool) → StaysUnlessTold alarms s c → (leaves ≡ false → IsSilent alarms Leaves128) → not leaves ≡ true → StaysWithin128 s c
 stays_within s c alarms false stays none e = stays (none refl)
 stays_within s c alarms true stays none e = absurd (cc)
+
+-- what is printed for a party
+pub tells_of_party : (telling : Telling) (given : Bool) (asked : Option Party) (party : Party) (s : StateMaps) (c : ContractTree) (told : Analysed) (kept : Option (List Kept)) (r : Result Analysed AllocError)
+    → asked ≡ Some party → TellsOfTree telling given s c told.is_clear told.has_unreached told.text.items → (told.stays ≡ true → StaysWithin128 s c) → (told.is_clear ≡ true → told.stays ≡ true) → IsSureFor asked s c told.stays kept
+    → IfOk r (λ w. (w.text.items ≡ with_kept telling.tools given party kept told.text.items) × (w.is_clear ≡ told.is_clear) × (w.has_unreached ≡ told.has_unreached))
+    → IfOk r (λ w. TellsFor telling asked given s c w.is_clear w.has_unreached w.text.items)
+tells_of_party telling given asked party s c told kept (Err e) is tells within silent sure h = tt
+tells_of_party telling given asked party s c told kept (Ok w) is tells within silent sure (text, clear, unreached) =
+    let so : TellsFor telling (Some party) given s c w.is_clear w.has_unreached w.text.items = record {
+      text = told.text.items;
+      tells = subst (λ (b : Bool). TellsOfTree telling given s c b w.has_unreached told.text.items) (sym clear) (subst (λ (b : Bool). TellsOfTree telling given s c told.is_clear b told.text.items) (sym unreached) tells);
+      stays = told.stays;
+      within = within;
+      silent = λ e. silent (sym clear ∙ e);
+      kept = kept;
+      sure = subst (λ (p : Option Party). IsSureFor p s c told.stays kept) is sure;
+      is = text;
+    } in
+    subst (λ (p : Option Party). TellsFor telling p given s c w.is_clear w.has_unreached w.text.items) (sym is) so
+
+pub tells_of_none : (telling : Telling) (given : Bool) (asked : Option Party) (s : StateMaps) (c : ContractTree) (told : Analysed) → asked ≡ None → TellsOfTree telling given s c told.is_clear told.has_unreached told.text.items
+    → TellsFor telling asked given s c told.is_clear told.has_unreached told.text.items
+tells_of_none telling given asked s c told is tells = subst (λ (p : Option Party). TellsFor telling p given s c told.is_clear told.has_unreached told.text.items) (sym is) tells

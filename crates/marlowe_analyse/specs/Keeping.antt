@@ -16,6 +16,11 @@ abbrev pub IsSure : Party → StateMaps → ContractTree → Bool → Option (Li
 IsSure party s c true kept = (all : List Kept) × (kept ≡ Some all) × KeepsWithin party all s c × OthersAreKept party all s c
 IsSure party s c false kept = kept ≡ None
 
+-- .. if one is asked about
+abbrev pub IsSureFor : Option Party → StateMaps → ContractTree → Bool → Option (List Kept) → Type 0
+IsSureFor None s c stays kept = Unit {0}
+IsSureFor (Some party) s c stays kept = IsSure party s c stays kept
+
 -- what is printed without it, and with it
 pub record TellsOfParty (telling : Telling) (party : Party) (given : Bool) (s : StateMaps) (c : ContractTree) (clear unreached : Bool) (out : List ℕ) : Type 0 where
   pub text : List ℕ

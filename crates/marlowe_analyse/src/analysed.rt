@@ -8,7 +8,8 @@ ghost use Rattle.bound_runs.specs.Told.{RangeHasNumbers, LossHasNumbers};
 ghost use Rattle.analysis_lines.specs.ToldLines.{line_of, LineFits};
 ghost use Rattle.marlowe_analyse.specs.Told.{text_given};
 ghost use Rattle.marlowe_analyse.specs.Printed.{printed, IsClear, TellsOfTree, is_read};
-ghost use Rattle.marlowe_analyse.specs.Keeping.{IsSure, TellsFor, TellsOfParty, TellsSo};
+ghost use Rattle.marlowe_analyse.specs.Keeping.{IsSure, IsSureFor, TellsFor, TellsSo};
+ghost use Rattle.analysis_lines.specs.Kept.{with_kept};
 ghost use Rattle.marlowe_analyse.specs.RunsSupport.{AnalysedFrom, is_started};
 
 use crate::once::told_once;
@@ -18,6 +19,7 @@ use crate::taken::{leaves, told_losses, told_out};
 use crate::unreached::told_places;
 use analysis::analyse;
 use analysis_lines::{Told, json_for_tools, lines_for_people, with_kept};
+use analysis_spec::PaidRange;
 use analysis_walk::Analysis;
 use bound_runs::{Shown, with_runs};
 use contract::{Contract, Items, Memory, Party, State};
@@ -121,30 +123,25 @@ pub fn analysis_for(
     ensures { IfOk result (λ told. TellsFor telling party.now given state.now (contract_tree contract.now)
         told.is_clear told.has_unreached told.text.items) }
 {
-    let told = analysis_text(alloc, contract, state, given, length, telling)?;
+    let (told, kept) = all_told(alloc, contract, state, given, length, telling, party)?;
     match party {
-        Some(party) => with_party(alloc, told, contract, state, given, telling, party),
+        Some(party) => with_party(alloc, told, kept, given, telling, party),
         None => Ok(told),
     }
 }
 
-// .. with what a party is sure of while it keeps up.
+// What is printed, with what a party is sure of while it keeps up.
 fn with_party(
     alloc: Global,
     told: Analysed,
-    contract: &Contract,
-    state: &State,
+    kept: Option<Items<Kept>>,
     given: bool,
     telling: Telling,
     party: &Party,
 ) -> Result<Analysed, Memory>
-    requires tells { TellsOfTree telling given state.now (contract_tree contract.now) told.is_clear told.has_unreached told.text.items }
-    requires within { told.stays ≡ true → StaysWithin128 state.now (contract_tree contract.now) }
-    requires silent { told.is_clear ≡ true → told.stays ≡ true }
-    ensures { IfOk result (λ whole. TellsOfParty telling party.now given state.now (contract_tree contract.now)
-        whole.is_clear whole.has_unreached whole.text.items) }
+    ensures { IfOk result (λ whole. (whole.text.items ≡ with_kept telling.tools given party.now kept told.text.items)
+        × (whole.is_clear ≡ told.is_clear) × (whole.has_unreached ≡ told.has_unreached)) }
 {
-    let kept = kept_if(alloc, contract, state, party, told.stays)?;
     let Analysed {
         text,
         is_clear,
@@ -160,37 +157,56 @@ fn with_party(
     })
 }
 
-// What it is sure of; nothing where a number may leave 128 bits, since then what it brought may never come out.
+// What it is sure of, if one is asked about; nothing where a number may leave 128 bits, since then what it brought may never come out.
+fn kept_for(
+    alloc: Global,
+    contract: &Contract,
+    state: &State,
+    ranges: &[PaidRange],
+    party: &Option<Party>,
+    stays: bool,
+) -> Result<Option<Items<Kept>>, Memory>
+    ensures { IfOk result (IsSureFor party.now state.now (contract_tree contract.now) stays) }
+{
+    match party {
+        Some(party) => kept_if(alloc, contract, state, ranges, party, stays),
+        None => Ok(None),
+    }
+}
+
 fn kept_if(
     alloc: Global,
     contract: &Contract,
     state: &State,
+    ranges: &[PaidRange],
     party: &Party,
     stays: bool,
 ) -> Result<Option<Items<Kept>>, Memory>
     ensures { IfOk result (IsSure party.now state.now (contract_tree contract.now) stays) }
 {
     if stays {
-        let kept = kept_up(alloc, contract, state, party)?;
+        let kept = kept_up(alloc, contract, state, ranges, party)?;
         Ok(Some(kept))
     } else {
         Ok(None)
     }
 }
 
-// What is printed where no party is asked about.
-fn analysis_text(
+// What is printed where no party is asked about, and what the party is sure of, if one is.
+fn all_told(
     alloc: Global,
     contract: &Contract,
     state: &State,
     given: bool,
     length: usize,
     telling: Telling,
-) -> Result<Analysed, Memory>
-    ensures told { IfOk result (λ told.
-        TellsOfTree telling given state.now (contract_tree contract.now) told.is_clear told.has_unreached told.text.items) }
-    ensures within { IfOk result (λ told. told.stays ≡ true → StaysWithin128 state.now (contract_tree contract.now)) }
-    ensures silent { IfOk result (λ told. told.is_clear ≡ true → told.stays ≡ true) }
+    party: &Option<Party>,
+) -> Result<(Analysed, Option<Items<Kept>>), Memory>
+    ensures told { IfOk result (λ r.
+        TellsOfTree telling given state.now (contract_tree contract.now) r.0.is_clear r.0.has_unreached r.0.text.items) }
+    ensures within { IfOk result (λ r. r.0.stays ≡ true → StaysWithin128 state.now (contract_tree contract.now)) }
+    ensures silent { IfOk result (λ r. r.0.is_clear ≡ true → r.0.stays ≡ true) }
+    ensures kept { IfOk result (λ r. IsSureFor party.now state.now (contract_tree contract.now) r.0.stays r.1) }
 {
     let Analysis {
         alarms,
@@ -200,7 +216,8 @@ fn analysis_text(
     let out = told_out(contract, state, alarms.as_slice());
     let all_come = unreached.is_empty();
     let losses = told_losses(alloc, contract, state, alarms.as_slice(), &ranges, all_come)?;
-    let leaves = leaves(alarms.as_slice());
+    let stays = !leaves(alarms.as_slice());
+    let kept = kept_for(alloc, contract, state, ranges.as_slice(), party, stays)?;
     let work = work_of(length, telling.runs);
     let alarms = told_alarms(alloc, contract, state, alarms.as_slice(), work)?;
     let ranges = told_ranges(alloc, contract, state, ranges)?;
@@ -219,12 +236,13 @@ fn analysis_text(
         losses,
     };
     let text = printed(alloc, &told, contract, state, given, telling)?;
-    Ok(Analysed {
+    let told = Analysed {
         text,
         is_clear,
         has_unreached,
-        stays: !leaves,
-    })
+        stays,
+    };
+    Ok((told, kept))
 }
 
 // Whether of alarms of one kind at equal parts one is told.
