@@ -107,9 +107,6 @@ unnamed k a n low e f i s ps d =
     reaches n (pos 0) _ low (c any_runs i s ps d).0.0
 
 -- each of these has a row
-pub seen_none : (rows : Rows) → Finds Nothing rows rows × AllByRecursion (HasRow rows) []
-seen_none rows = (nothing_noted rows, tt)
-
 pub seen_more : (xs : List Account) (i : ℕ) (x : Account) (old now next : Rows) → i < length xs → x ≡ get_or xs i x → Finds Nothing old now × AllByRecursion (HasRow now) (take i xs) → Sees x now next
     → Finds Nothing old next × AllByRecursion (HasRow next) (take (i + 1) xs)
 seen_more xs i x old now next l is before sees = (

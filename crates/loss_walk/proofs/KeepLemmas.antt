@@ -213,9 +213,9 @@ module _ (keeper : Option Party) where
   cut_means : (o : Option Party) (q : Quiet) (ks : CaseTrees) (t : ℤ) → is_cut o q ks t ≡ true → (p : Party) × (o ≡ Some p) × (asks_for p ks ≡ true) × (q.timeless ≡ true) × (q.latest <ℤ t)
   cut_means None q ks t h = absurd (cc)
   cut_means (Some p) q ks t h =
-      let k = both_true (asks_for p ks) (q.timeless && int_lt q.latest t) h in
-      let l = both_true q.timeless (int_lt q.latest t) k.1 in
-      (p, refl, k.0, l.0, true_lt q.latest t l.1)
+      let k = both_true (q.timeless && int_lt q.latest t) (asks_for p ks) h in
+      let l = both_true q.timeless (int_lt q.latest t) k.0 in
+      (p, refl, k.1, l.0, true_lt q.latest t l.1)
 
   -- so a When that is cut isn't left by its timeout
   pub never_left : (q : Quiet) (since : ℤ) (i : Interval) (s : StateMaps) (ks : CaseTrees) (t : ℤ) (c : ContractTree) → (q.latest <ℤ t → since <ℤ t) → Keeps q.timeless since i s (when ks t c) → is_cut keeper q ks t ≡ true

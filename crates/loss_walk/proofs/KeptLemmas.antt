@@ -10,6 +10,8 @@ use Rattle.std.specs.FinMap.Entries.{find}
 use Rattle.contract.specs.Names.declared.account.Account.{Account}
 use Rattle.contract.specs.Names.declared.party.Party.{Party}
 use Rattle.contract.specs.Names.declared.token.Token.{Token}
+use Rattle.contract.specs.Names.Equal.{same_party}
+use Rattle.contract.proofs.FromNames.EqualLaws.{same_party_decides}
 use Rattle.contract.specs.Names.Orders.{account_cmp}
 use Rattle.contract.specs.Tree.{ContractTree}
 use Rattle.contract.specs.States.States.{StateMaps, AllPositive}
@@ -25,6 +27,24 @@ use Rattle.analysis_values.proofs.AccountLaws.{account_decides}
 use Rattle.loss_walk.specs.declared.floor.Floor.{Floor}
 use Rattle.loss_walk.specs.Floors.{Rows, IsUnder, least_of, IsFloor, RowsHoldWhile, AreToldBy, TellsAllOf, TellsOwn}
 use Rattle.loss_walk.proofs.SoleLemmas.{natural_paid, natural_run}
+
+-- ---- who the owner is
+
+pub owner_apart : (a b : Party) (r : Bool) → r ≡ same_party a b → r ≡ false → a ≢ b
+owner_apart a b r e f h = let z : false ≡ true = sym f ∙ e ∙ (same_party_decides a b).1 h in cc
+
+pub owner_same : (a b : Party) (r : Bool) → r ≡ same_party a b → r ≡ true → a ≡ b
+owner_same a b r e f = (same_party_decides a b).0 (sym e ∙ f)
+
+-- a floor that is told is turned
+pub turned_floor : (least o most : Option ℤ) → IfSome o (IsUnder least) → IfSome most (λ n. IsUnder o (neg_ℤ n)) → IfSome most (λ n. IsUnder least (neg_ℤ n))
+turned_floor least o None h k = tt
+turned_floor least None (Some n) h k = absurd k
+turned_floor None (Some m) (Some n) h k = absurd h
+turned_floor (Some l) (Some m) (Some n) h k = reaches (neg_ℤ n) m l k h
+  where
+    reaches : (a b c : ℤ) → a ≤ℤ b → b ≤ℤ c → a ≤ℤ c
+    reaches a b c h k = omega (arith, ints)
 
 -- ---- row by row
 

@@ -52,4 +52,4 @@ after_timeout q timeout = record { latest = int_max q.latest timeout; timeless =
 -- a When is not left by its timeout: who keeps up is asked for, and could see so before
 abbrev pub is_cut : Option Party → Quiet → CaseTrees → ℤ → Bool
 is_cut None q ks timeout = false
-is_cut (Some party) q ks timeout = asks_for party ks && (q.timeless && int_lt q.latest timeout)
+is_cut (Some party) q ks timeout = (q.timeless && int_lt q.latest timeout) && asks_for party ks

@@ -53,7 +53,7 @@ impl Quiet {
     {
         match &question.keeper {
             None => false,
-            Some(party) => asks_for(party, cases) && (self.timeless && self.latest < timeout),
+            Some(party) => (self.timeless && self.latest < timeout) && asks_for(party, cases),
         }
     }
 }
