@@ -1,20 +1,25 @@
 -- The worked runs.
-use Rattle.std.proofs.Common.{◌≡◌, ℤ, pos, ◌≤ℤ◌, ◌<ℤ◌, int_lt, int_le, Bool, true, false, cond, List, [], ◌∷◌, refl, arith, Ok, Err, Option, Some, None, IfSome}
+use Rattle.std.proofs.Common.{◌≡◌, ℤ, pos, ◌≤ℤ◌, ◌<ℤ◌, int_lt, int_le, Bool, true, false, cond, List, [], ◌∷◌, refl, arith, Result, Ok, Err, IfOk, Option, Some, None, IfSome}
 use Rattle.std.proofs.lemmas.Int.{ints}
 use Rattle.contract.specs.Names.declared.party.Party.{Party}
+use Rattle.contract.specs.declared.fault.SemFault.{SemFault}
 use Rattle.contract.specs.declared.fault.SemFault.TheVariants.{Ambiguous}
+use Rattle.contract.specs.declared.input.Input.{Input}
+use Rattle.contract.specs.declared.input.Input.TheVariants.{Deposit}
+use Rattle.contract.specs.declared.transaction.Transaction.{Transaction}
 use Rattle.contract.specs.declared.interval.Interval.{Interval}
 use Rattle.contract.specs.Names.Equal.{ada}
 use Rattle.contract.specs.Tree.{constant, deposit, ContractTree, CaseTrees, close, when, no_cases, case_then}
 use Rattle.contract.specs.States.States.{StateMaps}
 use Rattle.semantics.specs.Evaluation.Numbers.{fits}
-use Rattle.semantics.specs.Walk.{standing, Walk, ended}
+use Rattle.semantics.specs.Walk.{Standing, standing, Walk, ended, answer_of}
 use Rattle.semantics.specs.Reduction.{timing_out}
 use Rattle.semantics.specs.Settling.{reduction_then}
-use Rattle.semantics.specs.Rows.{party_a, party_b, nothing}
+use Rattle.semantics.specs.Rows.{interval, party_a, party_b, nothing}
 use Rattle.semantics.specs.Computed.{settled, applied, one_input, from_start, computed}
-use Rattle.keeping_up.specs.KeepsUp.{asks_for, waits_behind, waits_at}
-use Rattle.keeping_up.specs.Rows.{asks_five, WaitsForTheBuyer, WaitsNoLonger, WaitsForNobodyElse, LateIsTooLate, OthersKeepUp, DepositIsInTime, RefusedIsNothing, SkippedIsTooLate, DeadOnArrival, OverAtTheStart, NothingIsAsked}
+use Rattle.analysis_spec.specs.Runs.{walk_from}
+use Rattle.keeping_up.specs.KeepsUp.{asks_for, waits_behind, waits_at, IsInTime, KeepsUp}
+use Rattle.keeping_up.specs.Rows.{asks_five, escrow, WaitsForTheBuyer, WaitsNoLonger, WaitsForNobodyElse, LateIsTooLate, OthersKeepUp, DepositIsInTime, RefusedIsNothing, SkippedIsTooLate, DeadOnArrival, OverAtTheStart, NothingIsAsked}
 
 -- a contract waits at a When before its timeout, and from then on as its continuation does
 module _ (party : Party) (now : ℤ) (s : StateMaps) (ks : CaseTrees) (t : ℤ) (c : ContractTree) (P : ℤ → Type 0) (before : asks_for party ks ≡ true → now <ℤ t → P t) (after : t ≤ℤ now → IfSome (waits_at party now (standing s c)) P) where
@@ -24,7 +29,7 @@ module _ (party : Party) (now : ℤ) (s : StateMaps) (ks : CaseTrees) (t : ℤ) 
   le_is : (a b : ℤ) → int_le a b ≡ true → a ≤ℤ b
   le_is a b h = grind (arith, ints)
 
-  here : StateMaps
+  abbrev here : StateMaps
   here = record s { min_time = now }
 
   asked : (b : Bool) → asks_for party ks ≡ b → int_lt now t ≡ true → IfSome (cond b (Some t) None) P
@@ -85,29 +90,36 @@ le_itself a = omega (arith, ints)
 abbrev five : Party → CaseTrees
 five party = case_then (deposit party_a party ada (constant (pos 5))) close no_cases
 
+if_ok : (X : Type 0) (r : Result Standing SemFault) → X → IfOk r (λ b. X)
+if_ok X (Ok a) x = x
+if_ok X (Err f) x = tt
+
+-- a transaction that is in time, alone
+alone : (party : Party) (a : Standing) (t : Transaction) → IsInTime party a t → KeepsUp party a (t ∷ [])
+alone party a t h = (if_ok (IsInTime party a t) (answer_of (walk_from a t)) h, tt)
+
+abbrev late : List Input → ℤ → Transaction
+late xs n = record { interval = interval n n; inputs = xs }
+
 pub others_keep_up : OthersKeepUp
-unfolding computed from_start one_input applied fits
-others_keep_up = (
-  λ now g. at_when party_a now nothing (five party_b) (pos 100) close (λ time. pos 100 <ℤ time) (λ e l. absurd (let z : false ≡ true = e in cc)) (λ l. tt),
-  tt,
-)
+others_keep_up =
+    alone party_a (standing nothing escrow) (late [] (pos 100))
+    (λ now g. at_when party_a now nothing (five party_b) (pos 100) close (λ time. pos 100 <ℤ time) (λ e l. absurd (let z : false ≡ true = e in cc)) (λ l. tt))
 
 pub deposit_is_in_time : DepositIsInTime
-unfolding computed from_start one_input applied fits
-deposit_is_in_time = (λ now g. at_when party_b now nothing (five party_b) (pos 100) close (λ time. pos 99 <ℤ time) (λ e l. in_time (pos 99) (pos 100) refl refl) (λ l. tt), tt)
+deposit_is_in_time =
+    alone party_b (standing nothing escrow) (late (Deposit party_a party_b ada (pos 5) ∷ []) (pos 99))
+    (λ now g. at_when party_b now nothing (five party_b) (pos 100) close (λ time. pos 99 <ℤ time) (λ e l. in_time (pos 99) (pos 100) refl refl) (λ l. tt))
 
 pub over_at_the_start : OverAtTheStart
-unfolding computed from_start one_input applied fits
-over_at_the_start = (
-  λ now g. at_when party_b now (record nothing { min_time = pos 100 }) (five party_b) (pos 100) close (λ time. pos 100 <ℤ time)
-      (λ e l. absurd (not_before now (pos 100) (pos 100) (le_itself (pos 100)) g l)) (λ l. tt),
-  tt,
-)
+over_at_the_start =
+    let s : StateMaps = record nothing { min_time = pos 100 } in
+    alone party_b (standing s escrow) (late [] (pos 100))
+    (λ now g. at_when party_b now s (five party_b) (pos 100) close (λ time. pos 100 <ℤ time) (λ e l. absurd (not_before now (pos 100) (pos 100) (le_itself (pos 100)) g l)) (λ l. tt))
 
 pub dead_on_arrival : DeadOnArrival
-unfolding computed from_start one_input applied fits
-dead_on_arrival = (
-  λ now g. at_when party_b now nothing (five party_a) (pos 100) (asks_five party_b (pos 50) close) (λ time. pos 100 <ℤ time) (λ e l. absurd (let z : false ≡ true = e in cc))
-      (λ late. at_when party_b now nothing (five party_b) (pos 50) close (λ time. pos 100 <ℤ time) (λ e l. absurd (not_before now (pos 50) (pos 100) (fifty (pos 50) (pos 100) refl refl) late l)) (λ l. tt)),
-  tt,
-)
+dead_on_arrival =
+    let d = asks_five party_b (pos 50) close in
+    alone party_b (standing nothing (asks_five party_a (pos 100) d)) (late [] (pos 100))
+    (λ now g. at_when party_b now nothing (five party_a) (pos 100) d (λ time. pos 100 <ℤ time) (λ e l. absurd (let z : false ≡ true = e in cc))
+    (λ past. at_when party_b now nothing (five party_b) (pos 50) close (λ time. pos 100 <ℤ time) (λ e l. absurd (not_before now (pos 50) (pos 100) (fifty (pos 50) (pos 100) refl refl) past l)) (λ l. tt)))
