@@ -65,7 +65,7 @@ natural_append [] qs h k = k
 natural_append (p ∷ ps) qs h k = (h.0, natural_append ps qs h.1 k)
 
 module _ (N : PaymentsAreNatural) (A : AccountsStayPositive) where
-  natural_run : (a : Standing) (ts : List Transaction) → Positive a.state → AreNatural (payments_of a ts)
+  pub natural_run : (a : Standing) (ts : List Transaction) → Positive a.state → AreNatural (payments_of a ts)
   natural_run a [] h = tt
   natural_run a (x ∷ ts) h = by_answer (λ d k. natural_run d ts k) (answer_of (walk_from a x)) refl
     where
@@ -152,7 +152,7 @@ natural_share party token (ToParty q) t n h = by_tests (same_party party q) (sam
     by_tests true false = le_self (pos 0)
     by_tests false d = le_self (pos 0)
 
-natural_paid : (party : Party) (token : Token) (ps : List Payment) → AreNatural ps → pos 0 ≤ℤ paid_to party token ps
+pub natural_paid : (party : Party) (token : Token) (ps : List Payment) → AreNatural ps → pos 0 ≤ℤ paid_to party token ps
 natural_paid party token [] h = le_self (pos 0)
 natural_paid party token (p ∷ ps) h = sum_natural (reaches_party party p.to (counted token p.token p.amount)) (paid_to party token ps) (natural_share party token p.to p.token p.amount h.0) (natural_paid party token ps h.1)
 

@@ -1,11 +1,16 @@
+use Rattle.std.proofs.Common.{refl, ap, ◌∙◌}
 use Rattle.contract.specs.Tree.{contract_tree}
+use Rattle.loss_walk.specs.Nets.{of_all_runs}
+use Rattle.loss_walk.specs.Cuts.{quiet_from}
 use Rattle.loss_walk.proofs.CoverLemmas.{lose_within, others_lose_nothing}
 use Rattle.loss_walk.proofs.losing.walked_losses.Goals as goal
 
 pub returns-clause-losses : goal.returns-clause-losses
 returns-clause-losses c =
-    lose_within c.in_ok-known.known c.args.state.now (contract_tree c.args.contract.now) c.new-rows.result c.walk.new.rows c.in_ok-known.ensures c.in_ok-walk.ensures c.nets_bound_losses.ensures c.in_ok-all.all c.in_ok-all.ensures.floors
+    lose_within c.in_ok-known.known c.args.state.now (contract_tree c.args.contract.now) of_all_runs c.from.result c.new-rows.result c.walk.new.rows refl c.in_ok-known.ensures (c.from.ensures ∙ ap quiet_from c.min_time.ensures) c.in_ok-walk.ensures
+    c.nets_bound_losses.ensures c.in_ok-all.all c.in_ok-all.ensures.floors
 
 pub returns-clause-others : goal.returns-clause-others
 returns-clause-others c =
-    others_lose_nothing c.in_ok-known.known c.args.state.now (contract_tree c.args.contract.now) c.new-rows.result c.walk.new.rows c.in_ok-known.ensures c.in_ok-walk.ensures c.nets_bound_losses.ensures c.in_ok-all.all c.in_ok-all.ensures.all
+    others_lose_nothing c.in_ok-known.known c.args.state.now (contract_tree c.args.contract.now) of_all_runs c.from.result c.new-rows.result c.walk.new.rows refl c.in_ok-known.ensures (c.from.ensures ∙ ap quiet_from c.min_time.ensures) c.in_ok-walk.ensures
+    c.nets_bound_losses.ensures c.in_ok-all.all c.in_ok-all.ensures.all

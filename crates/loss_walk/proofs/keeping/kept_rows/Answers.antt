@@ -1,0 +1,11 @@
+use Rattle.std.proofs.Common.{ap, ◌∙◌}
+use Rattle.contract.specs.Tree.{contract_tree}
+use Rattle.loss_walk.specs.Cuts.{quiet_from}
+use Rattle.loss_walk.specs.Nets.{while_keeping_up}
+use Rattle.loss_walk.proofs.CoverLemmas.{rows_hold}
+use Rattle.loss_walk.proofs.keeping.kept_rows.Goals as goal
+
+pub returns : goal.returns
+returns c =
+    rows_hold c.args.net c.args.party.now c.in_ok-known.known c.args.state.now (contract_tree c.args.contract.now) _ c.from.result c.in_ok-rows.rows c.walk.new.rows (ap (λ p. while_keeping_up p c.args.net) c.in_ok-try_clone.ensures)
+    c.in_ok-known.ensures (c.from.ensures ∙ ap quiet_from c.min_time.ensures) c.in_ok-walk.ensures c.nets_bound_kept.ensures

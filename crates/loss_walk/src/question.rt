@@ -1,0 +1,11 @@
+//! What a walk is asked.
+use contract::Party;
+
+/// Of which runs floors are wanted, and of what.
+#[derive(Debug, Drop)]
+pub(crate) struct Question {
+    /// Who keeps up in them; if it is none, they are all runs.
+    pub(crate) keeper: Option<Party>,
+    /// Whether what a party brings is taken off what it is paid.
+    pub(crate) net: bool,
+}
