@@ -52,7 +52,7 @@ kept_json p kept = two (codes "party") (party_json p) (codes "tokens") (tokens_j
 
 -- an object on a line, with one more member behind its others
 abbrev pub with_member : List ℕ → Data → List ℕ
-with_member text d = take (length text - 2) text ++ (codes ",\"keeping_up\":" ++ (compact_text d ++ codes "}\n"))
+with_member text d = take (length text - 2) text ++ (codes ",\"while_keeping_up\":" ++ (compact_text d ++ codes "}\n"))
 
 -- ---- both
 

@@ -147,7 +147,7 @@ fn with_member(
     let member = kept_text(alloc, party, kept)?;
     let open = text.len().saturating_sub(2);
     text.truncate(open);
-    put_bytes(&mut text, b",\"keeping_up\":")?;
+    put_bytes(&mut text, b",\"while_keeping_up\":")?;
     put_bytes(&mut text, member.as_slice())?;
     put_bytes(&mut text, b"}\n")?;
     Ok(text)
