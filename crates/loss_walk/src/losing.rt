@@ -48,6 +48,7 @@ fn walked_losses(alloc: Global, contract: &Contract, state: &State) -> Result<It
     let question = Question {
         keeper: None,
         net: true,
+        asked: Items::new(alloc),
     };
     let known = start(alloc, state)?;
     let mut rows = Entries::new(alloc);

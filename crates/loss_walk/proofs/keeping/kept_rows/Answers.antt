@@ -7,5 +7,5 @@ use Rattle.loss_walk.proofs.keeping.kept_rows.Goals as goal
 
 pub returns : goal.returns
 returns c =
-    rows_hold c.args.net c.args.party.now c.in_ok-known.known c.args.state.now (contract_tree c.args.contract.now) _ c.from.result c.in_ok-rows.rows c.walk.new.rows (ap (λ p. while_keeping_up p c.args.net) c.in_ok-try_clone.ensures)
+    rows_hold c.args.net c.args.party.now c.args.asked.now c.in_ok-known.known c.args.state.now (contract_tree c.args.contract.now) _ c.from.result c.in_ok-rows.rows c.walk.new.rows (λ i. while_keeping_up (c.in_ok-try_clone.ensures i) c.args.net (c.in_ok-try_clone-2.ensures i))
     c.in_ok-known.ensures (c.from.ensures ∙ ap quiet_from c.min_time.ensures) c.in_ok-walk.ensures c.nets_bound_kept.ensures

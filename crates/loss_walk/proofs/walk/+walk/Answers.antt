@@ -61,11 +61,11 @@ walk-returns-in_ok-walk_when-in-When t c =
     let ks = case_trees (map case_tree c.as_slice.result.now) in
     let then = contract_tree c.get-in-When.result.now in
     let lent = ap (λ cases. when (case_trees (map case_tree cases)) p.timeout then) (sym c.as_slice.ensures) in
-    subst (λ tree. Finds (IsCovered c.args.question.now c.args.quiet c.args.known tree) f h) (sym (is-When d p.cases p.timeout p.then c.get-in-When.result.now p.is c.get-in-When.ensures ∙ lent))
-    (subst (λ n. Finds (IsCovered c.args.question.now c.args.quiet c.args.known (when ks n then)) f h) (to_z-of_z w64 p.timeout fits) c.in_ok-walk_when-in-When.ensures)
+    subst (λ tree. Finds c.args.question.now.asked (IsCovered c.args.question.now c.args.quiet c.args.known tree) f h) (sym (is-When d p.cases p.timeout p.then c.get-in-When.result.now p.is c.get-in-When.ensures ∙ lent))
+    (subst (λ n. Finds c.args.question.now.asked (IsCovered c.args.question.now c.args.quiet c.args.known (when ks n then)) f h) (to_z-of_z w64 p.timeout fits) c.in_ok-walk_when-in-When.ensures)
 
 pub walk_both-returns : goal.walk_both-returns
-walk_both-returns t c = both_of _ _ _ _ _ c.in_ok-go_on.ensures c.in_ok-go_on-2.ensures
+walk_both-returns t c = both_of _ _ _ _ _ _ c.in_ok-go_on.ensures c.in_ok-go_on-2.ensures
 
 -- ---- a When
 
@@ -99,11 +99,11 @@ walk_copied-returns t c =
     let n = c.args.index in
     let case = c.index-cases-index.result in
     at_index c.args.question.now c.args.quiet c.args.known.now ks n case c.args.rows.now c.walk_case.new.rows c.requires c.index-cases-index.is
-    (subst (λ (l : Known). Finds (CoversBehind c.args.question.now c.args.quiet l (take n ks) case) c.args.rows.now c.walk_case.new.rows) c.in_ok-copy.ensures c.in_ok-walk_case.ensures)
+    (subst (λ (l : Known). Finds c.args.question.now.asked (CoversBehind c.args.question.now c.args.quiet l (take n ks) case) c.args.rows.now c.walk_case.new.rows) c.in_ok-copy.ensures c.in_ok-walk_case.ensures)
 
 pub walk_case-returns : goal.walk_case-returns
 walk_case-returns t c =
-    behind_nothing _ c.args.rows.now c.note.new.rows c.go_on.new.rows c.in_ok-note.ensures
+    behind_nothing c.args.question.now.asked _ c.args.rows.now c.note.new.rows c.go_on.new.rows c.in_ok-note.ensures
     (case_found c.args.question.now c.args.quiet c.args.known (actions_before c.args.earlier.now) c.args.case.now c.in_ok-there.there c.note.new.rows c.go_on.new.rows c.in_ok-there.ensures c.in_ok-go_on.ensures)
 
 -- ---- where nothing is known
