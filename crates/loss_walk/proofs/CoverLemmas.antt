@@ -8,6 +8,7 @@ use Rattle.contract.specs.Names.declared.account.Account.{Account}
 use Rattle.contract.specs.Names.declared.party.Party.{Party}
 use Rattle.contract.specs.Names.declared.payee.Payee.{Payee}
 use Rattle.contract.specs.Names.declared.token.Token.{Token}
+use Rattle.contract.specs.declared.interval.Interval.{Interval}
 use Rattle.contract.specs.declared.payment.Payment.{Payment}
 use Rattle.contract.specs.declared.tree.Case.{Case}
 use Rattle.contract.specs.Tree.{ValueTree, ObservationTree, ActionTree, ContractTree, CaseTrees, close, pay, if_obs, when, let_be, assert, case_then, action_tree, contract_tree, case_tree, case_trees}

@@ -131,14 +131,14 @@ module _ (party : Party) (i : Interval) (time : ℤ) where
   at_when s ks t c w false true e go h = go h
   at_when s ks t c w false false e go h = absurd (let k : ◌≡◌ {A = Option ℤ} None (Some time) = h in cc)
 
+  either : (w v : Walk) (b : Bool) → (waits_behind party w.end ≡ Some time → i.to <ℤ time) → (waits_behind party v.end ≡ Some time → i.to <ℤ time) → waits_behind party (cond b w v).end ≡ Some time → i.to <ℤ time
+  either w v true f g h = f h
+  either w v false f g h = g h
+
   pub waits_longer : (s : StateMaps) (c : ContractTree) → waits_behind party (settled i s c).end ≡ Some time → i.to <ℤ time
   waits_longer s close h = absurd (let k : ◌≡◌ {A = Option ℤ} None (Some time) = h in cc)
   waits_longer s (pay p y t v c) h = waits_longer (pay_step s p y t (eval i s v) (visited i s v) c).state c h
-  waits_longer s (if_obs o c d) h = by_test (holds i s o) h
-    where
-      by_test : (b : Bool) → waits_behind party (cond b (settled i s c) (settled i s d)).end ≡ Some time → i.to <ℤ time
-      by_test true q = waits_longer s c q
-      by_test false q = waits_longer s d q
+  waits_longer s (if_obs o c d) h = either (settled i s c) (settled i s d) (holds i s o) (waits_longer s c) (waits_longer s d) h
   waits_longer s (when ks t c) h = at_when s ks t c (settled i s c) (int_lt i.to t) (int_le t i.from) refl (waits_longer s c) h
   waits_longer s (let_be x v c) h = waits_longer (binding s x (eval i s v) (visited i s v) c).state c h
   waits_longer s (assert o c) h = waits_longer s c h

@@ -1,5 +1,5 @@
 -- What is told of a party that keeps up.
-use Rattle.std.proofs.Common.{◌≡◌, ◌≢◌, ℕ, ◌<◌, ◌≤◌, ◌+◌, ℤ, pos, neg_ℤ, ◌+ℤ◌, ◌≤ℤ◌, cond, Bool, true, false, List, [], ◌∷◌, ◌++◌, take, length, refl, sym, ap, subst, ◌∙◌, Option, Some, None, IfSome, ◌⊎◌, inl, inr, arith}
+use Rattle.std.proofs.Common.{◌≡◌, ◌≢◌, ℕ, zero, suc, ◌<◌, ◌≤◌, ◌+◌, ℤ, pos, neg_ℤ, ◌+ℤ◌, ◌≤ℤ◌, cond, Bool, true, false, List, [], ◌∷◌, ◌++◌, take, length, refl, sym, ap, subst, ◌∙◌, Option, Some, None, IfSome, ◌⊎◌, inl, inr, arith}
 use Rattle.std.proofs.lemmas.Int.{ints}
 use Rattle.std.proofs.Math.ListN.{get_or}
 use Rattle.std.proofs.lemmas.List.{take_more, take_all}
@@ -10,8 +10,8 @@ use Rattle.std.specs.FinMap.Entries.{find}
 use Rattle.contract.specs.Names.declared.account.Account.{Account}
 use Rattle.contract.specs.Names.declared.party.Party.{Party}
 use Rattle.contract.specs.Names.declared.token.Token.{Token}
-use Rattle.contract.specs.Names.Equal.{same_party}
-use Rattle.contract.proofs.FromNames.EqualLaws.{same_party_decides}
+use Rattle.contract.specs.Names.Equal.{same_party, same_token}
+use Rattle.contract.proofs.FromNames.EqualLaws.{same_party_decides, same_token_decides}
 use Rattle.contract.specs.Names.Orders.{account_cmp}
 use Rattle.contract.specs.Tree.{ContractTree}
 use Rattle.contract.specs.States.States.{StateMaps, AllPositive}
@@ -35,6 +35,19 @@ owner_apart a b r e f h = let z : false ≡ true = sym f ∙ e ∙ (same_party_d
 
 pub owner_same : (a b : Party) (r : Bool) → r ≡ same_party a b → r ≡ true → a ≡ b
 owner_same a b r e f = (same_party_decides a b).0 (sym e ∙ f)
+
+-- ---- which accounts are asked
+
+pub account_so : (a b : Account) (p t : Bool) → p ≡ same_party a.owner b.owner → t ≡ same_token a.token b.token → p ≡ true → t ≡ true → a ≡ b
+account_so a b p t e f g h =
+    let x = owner_same a.owner b.owner p e g in
+    let y = (same_token_decides a.token b.token).0 (sym f ∙ h) in
+    (λ i. record { owner = x i; token = y i })
+
+pub one_at : (xs : List Account) (i : ℕ) (x a : Account) → i < length xs → x ≡ get_or xs i x → a ≡ x → IsOneOf xs a
+one_at [] i x a l is e = absurd (omega arith)
+one_at (y ∷ xs) zero x a l is e = inl (e ∙ is)
+one_at (y ∷ xs) (suc i) x a l is e = inr (one_at xs i x a (omega arith) is e)
 
 -- ---- one floor
 
@@ -79,13 +92,13 @@ told_more party asked paid net es i e old new l is h tells =
 
 no_row : (party : Party) (t : Token) (es : Rows) (all : List Kept) → AreTold party es all → IsUnnamed all t → find account_cmp (account_of party t) es ≡ None
 no_row party t [] all h u = refl
-no_row party t (e ∷ es) all h u = by_test (eq_by_cmp account_cmp (account_of party t) e.0) refl
+no_row party t (e ∷ es) all h u = by_test (no_row party t es all h.1 u) (eq_by_cmp account_cmp (account_of party t) e.0) refl
   where
-    by_test : (b : Bool) → eq_by_cmp account_cmp (account_of party t) e.0 ≡ b → cond b (Some e.1) (find account_cmp (account_of party t) es) ≡ None
-    by_test true q =
+    by_test : find account_cmp (account_of party t) es ≡ None → (b : Bool) → eq_by_cmp account_cmp (account_of party t) e.0 ≡ b → cond b (Some e.1) (find account_cmp (account_of party t) es) ≡ None
+    by_test none true q =
         let same : account_of party t ≡ e.0 = (account_decides (account_of party t) e.0).0 q in
         absurd (h.0 (subst (IsUnnamed all) (ap (λ (a : Account). a.token) same) u) (sym (ap (λ (a : Account). a.owner) same)))
-    by_test false q = no_row party t es all h.1 u
+    by_test none false q = none
 
 pub told_all : (party : Party) (net es : Rows) (i : ℕ) (all : List Kept) → es ≡ net → length es ≤ i → AreTold party (take i es) all → TellsAllOf party net all
 told_all party net es i all same l h t u = no_row party t net all (subst (λ (xs : Rows). AreTold party xs all) (take_all i es l ∙ same) h) u
