@@ -1,5 +1,5 @@
 -- Where a contract waits for a party at a moment, step by step.
-use Rattle.std.proofs.Common.{◌≡◌, ℕ, ℤ, pos, neg_ℤ, ◌+ℤ◌, ◌-ℤ◌, ◌*ℤ◌, ◌≤ℤ◌, ◌<ℤ◌, int_lt, int_le, Bool, true, false, cond, not, ◌&&◌, ◌||◌, List, refl, sym, ap, ◌∙◌, subst, arith, Ok, Err, Option, Some, None, IfSome}
+use Rattle.std.proofs.Common.{◌≡◌, ℕ, ℤ, pos, neg_ℤ, ◌+ℤ◌, ◌-ℤ◌, ◌*ℤ◌, ◌≤ℤ◌, ◌<ℤ◌, int_lt, int_le, Bool, true, false, cond, not, ◌&&◌, ◌||◌, List, refl, ap, ◌∙◌, subst, arith, Ok, Err, Option, Some, None, IfSome}
 use Rattle.std.proofs.lemmas.Int.{ints}
 use Rattle.std.specs.Int.{int_max, int_min}
 use Rattle.std.specs.Ordering.{int_eq}
@@ -13,12 +13,12 @@ use Rattle.contract.specs.Tree.{ValueTree, available_money, constant, neg_value,
 use Rattle.contract.specs.Tree.{ObservationTree, and_obs, or_obs, not_obs, chose_something, value_ge, value_gt, value_lt, value_le, value_eq, true_obs, false_obs}
 use Rattle.contract.specs.Tree.{ContractTree, CaseTrees, close, pay, if_obs, when, let_be, assert}
 use Rattle.contract.specs.States.States.{StateMaps}
-use Rattle.semantics.specs.Evaluation.Evaluation.{quotient, eval, visited, holds, looked}
+use Rattle.semantics.specs.Evaluation.Evaluation.{quotient, eval, visited, holds}
 use Rattle.semantics.specs.Walk.{standing, Walk, ended}
 use Rattle.semantics.specs.Reduction.{Reduction, balance, debited, credited, paying_lesser, not_paying, binding, timing_out}
 use Rattle.semantics.specs.Settling.{reduction_then}
 use Rattle.semantics.specs.Computed.{pay_step, settled}
-use Rattle.keeping_up.specs.KeepsUp.{asks_for, waits_until, waits_behind, waits_at}
+use Rattle.keeping_up.specs.KeepsUp.{asks_for, waits_behind, waits_at}
 use Rattle.loss_walk.specs.declared.quiet.Quiet.{Quiet}
 use Rattle.loss_walk.specs.Cuts.{is_timeless, holds_timeless, after_reading, after_timeout, is_cut}
 

@@ -1,5 +1,5 @@
 -- What is told of a party that keeps up.
-use Rattle.std.proofs.Common.{◌≡◌, ◌≢◌, ℕ, zero, suc, ◌<◌, ◌≤◌, ◌+◌, ℤ, pos, neg_ℤ, ◌+ℤ◌, ◌≤ℤ◌, cond, Bool, true, false, List, [], ◌∷◌, ◌++◌, take, length, refl, sym, ap, subst, ◌∙◌, Option, Some, None, IfSome, ◌⊎◌, inl, inr, arith}
+use Rattle.std.proofs.Common.{◌≡◌, ◌≢◌, ℕ, zero, suc, ◌<◌, ◌≤◌, ◌+◌, ℤ, pos, neg_ℤ, ◌≤ℤ◌, cond, Bool, true, false, List, [], ◌∷◌, ◌++◌, take, length, refl, sym, ap, subst, ◌∙◌, Option, Some, None, IfSome, ◌⊎◌, inl, inr, arith}
 use Rattle.std.proofs.lemmas.Int.{ints}
 use Rattle.std.proofs.Math.ListN.{get_or}
 use Rattle.std.proofs.lemmas.List.{take_more, take_all}
@@ -18,7 +18,7 @@ use Rattle.contract.specs.States.States.{StateMaps, AllPositive}
 use Rattle.semantics.specs.Walk.{standing}
 use Rattle.semantics.specs.Reduction.{account_of}
 use Rattle.semantics.specs.Naturals.{PaymentsAreNatural, AccountsStayPositive}
-use Rattle.analysis_spec.specs.Runs.{payments_of, paid_to}
+use Rattle.analysis_spec.specs.Runs.{payments_of}
 use Rattle.keeping_up.specs.declared.kept.Kept.{Kept}
 use Rattle.keeping_up.specs.KeepsUp.{PaidAtLeastWhile, LosesAtMostWhile}
 use Rattle.keeping_up.specs.Told.{KeepsWithin, IsUnnamed, OthersAreKept}

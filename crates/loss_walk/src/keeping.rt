@@ -85,7 +85,14 @@ fn kept_rows(
     };
     let known = start(alloc, state)?;
     let mut rows = raised_rows(alloc, asked.as_slice())?;
-    walk(alloc, &question, Quiet::from(state.min_time()), known, contract, &mut rows)?;
+    walk(
+        alloc,
+        &question,
+        Quiet::from(state.min_time()),
+        known,
+        contract,
+        &mut rows,
+    )?;
     Ok(rows)
 }
 

@@ -53,11 +53,29 @@ pub(crate) fn walk(
                 if_true,
                 if_false,
             } = branch(alloc, &known, observation)?;
-            walk_both(alloc, question, next, if_true, then.get(), if_false, otherwise.get(), rows)?;
+            walk_both(
+                alloc,
+                question,
+                next,
+                if_true,
+                then.get(),
+                if_false,
+                otherwise.get(),
+                rows,
+            )?;
             Ok(())
         }
         Contract::When(cases, timeout, then) => {
-            walk_when(alloc, question, quiet, known, cases.as_slice(), *timeout, then.get(), rows)?;
+            walk_when(
+                alloc,
+                question,
+                quiet,
+                known,
+                cases.as_slice(),
+                *timeout,
+                then.get(),
+                rows,
+            )?;
             Ok(())
         }
         Contract::Let(name, value, then) => {
@@ -169,7 +187,15 @@ fn walk_cases(
     for index in 0..last {
         walk_copied(alloc, question, quiet, &each, cases, index, rows)?;
     }
-    walk_case(alloc, question, quiet, each, &cases[..last], &cases[last], rows)?;
+    walk_case(
+        alloc,
+        question,
+        quiet,
+        each,
+        &cases[..last],
+        &cases[last],
+        rows,
+    )?;
     Ok(())
 }
 
@@ -188,7 +214,15 @@ fn walk_copied(
     ensures { OnOk result (Finds question.now.asked (CoversIndex question.now quiet known.now cases.now index) rows.old rows.new) }
 {
     let copy = known.try_clone()?;
-    walk_case(alloc, question, quiet, copy, &cases[..index], &cases[index], rows)?;
+    walk_case(
+        alloc,
+        question,
+        quiet,
+        copy,
+        &cases[..index],
+        &cases[index],
+        rows,
+    )?;
     Ok(())
 }
 
