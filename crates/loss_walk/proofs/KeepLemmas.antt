@@ -1,5 +1,5 @@
 -- Where a contract waits for a party at a moment, step by step.
-use Rattle.std.proofs.Common.{◌≡◌, ℕ, ℤ, pos, neg_ℤ, ◌+ℤ◌, ◌-ℤ◌, ◌*ℤ◌, ◌≤ℤ◌, ◌<ℤ◌, int_lt, int_le, Bool, true, false, cond, not, ◌&&◌, ◌||◌, List, refl, sym, ap, ◌∙◌, subst, arith, Ok, Err, Option, Some, None, IfSome}
+use Rattle.std.proofs.Common.{◌≡◌, ℕ, ℤ, pos, neg_ℤ, ◌+ℤ◌, ◌-ℤ◌, ◌*ℤ◌, ◌≤ℤ◌, ◌<ℤ◌, int_lt, int_le, Bool, true, false, cond, not, ◌&&◌, ◌||◌, List, refl, ap, ◌∙◌, subst, arith, Ok, Err, Option, Some, None, IfSome}
 use Rattle.std.proofs.lemmas.Int.{ints}
 use Rattle.std.specs.Int.{int_max, int_min}
 use Rattle.std.specs.Ordering.{int_eq}
@@ -13,12 +13,12 @@ use Rattle.contract.specs.Tree.{ValueTree, available_money, constant, neg_value,
 use Rattle.contract.specs.Tree.{ObservationTree, and_obs, or_obs, not_obs, chose_something, value_ge, value_gt, value_lt, value_le, value_eq, true_obs, false_obs}
 use Rattle.contract.specs.Tree.{ContractTree, CaseTrees, close, pay, if_obs, when, let_be, assert}
 use Rattle.contract.specs.States.States.{StateMaps}
-use Rattle.semantics.specs.Evaluation.Evaluation.{quotient, eval, visited, holds, looked}
+use Rattle.semantics.specs.Evaluation.Evaluation.{quotient, eval, visited, holds}
 use Rattle.semantics.specs.Walk.{standing, Walk, ended}
 use Rattle.semantics.specs.Reduction.{Reduction, balance, debited, credited, paying_lesser, not_paying, binding, timing_out}
 use Rattle.semantics.specs.Settling.{reduction_then}
 use Rattle.semantics.specs.Computed.{pay_step, settled}
-use Rattle.keeping_up.specs.KeepsUp.{asks_for, waits_until, waits_behind, waits_at}
+use Rattle.keeping_up.specs.KeepsUp.{asks_for, waits_behind, waits_at}
 use Rattle.loss_walk.specs.declared.quiet.Quiet.{Quiet}
 use Rattle.loss_walk.specs.Cuts.{is_timeless, holds_timeless, after_reading, after_timeout, is_cut}
 
@@ -131,14 +131,14 @@ module _ (party : Party) (i : Interval) (time : ℤ) where
   at_when s ks t c w false true e go h = go h
   at_when s ks t c w false false e go h = absurd (let k : ◌≡◌ {A = Option ℤ} None (Some time) = h in cc)
 
+  either : (w v : Walk) (b : Bool) → (waits_behind party w.end ≡ Some time → i.to <ℤ time) → (waits_behind party v.end ≡ Some time → i.to <ℤ time) → waits_behind party (cond b w v).end ≡ Some time → i.to <ℤ time
+  either w v true f g h = f h
+  either w v false f g h = g h
+
   pub waits_longer : (s : StateMaps) (c : ContractTree) → waits_behind party (settled i s c).end ≡ Some time → i.to <ℤ time
   waits_longer s close h = absurd (let k : ◌≡◌ {A = Option ℤ} None (Some time) = h in cc)
   waits_longer s (pay p y t v c) h = waits_longer (pay_step s p y t (eval i s v) (visited i s v) c).state c h
-  waits_longer s (if_obs o c d) h = by_test (holds i s o) h
-    where
-      by_test : (b : Bool) → waits_behind party (cond b (settled i s c) (settled i s d)).end ≡ Some time → i.to <ℤ time
-      by_test true q = waits_longer s c q
-      by_test false q = waits_longer s d q
+  waits_longer s (if_obs o c d) h = either (settled i s c) (settled i s d) (holds i s o) (waits_longer s c) (waits_longer s d) h
   waits_longer s (when ks t c) h = at_when s ks t c (settled i s c) (int_lt i.to t) (int_le t i.from) refl (waits_longer s c) h
   waits_longer s (let_be x v c) h = waits_longer (binding s x (eval i s v) (visited i s v) c).state c h
   waits_longer s (assert o c) h = waits_longer s c h

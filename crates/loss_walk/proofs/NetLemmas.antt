@@ -433,10 +433,10 @@ paid_alone : (n p b : ℤ) → b ≡ pos 0 → n ≤ℤ (pos 0 +ℤ (p -ℤ b)) 
 paid_alone n p b e h = omega (arith, ints, e)
 
 pub nets_bound_kept : TimeGoesOn → NetsBoundKept
-nets_bound_kept T true party token floor s c h ts spent keeps =
+nets_bound_kept T true asked party token floor s c h = λ ts spent keeps.
     let a = standing s c in
-    turned floor (paid_to party token (payments_of a ts)) (brought_by party token (inputs_of a ts)) (floor_kept (while_keeping_up party true) party token floor T s c h ts spent keeps)
-nets_bound_kept T false party token floor s c h ts spent keeps =
+    turned floor (paid_to party token (payments_of a ts)) (brought_by party token (inputs_of a ts)) (floor_kept (while_keeping_up party true asked) party token floor T s c h ts spent keeps)
+nets_bound_kept T false asked party token floor s c h = λ ts spent keeps.
     let a = standing s c in
     paid_alone floor (paid_to party token (payments_of a ts)) (total (taken_off false party token) (inputs_of a ts)) (none_off party token (inputs_of a ts))
-    (floor_kept (while_keeping_up party false) party token floor T s c h ts spent keeps)
+    (floor_kept (while_keeping_up party false asked) party token floor T s c h ts spent keeps)

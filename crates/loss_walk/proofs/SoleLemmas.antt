@@ -1,10 +1,9 @@
 -- What one party loses goes to the others.
-use Rattle.std.proofs.Common.{◌≡◌, ℕ, ◌+◌, ◌<◌, ◌≤◌, ℤ, pos, neg_ℤ, ◌+ℤ◌, ◌-ℤ◌, ◌≤ℤ◌, ◌<ℤ◌, int_lt, Bool, true, false, ◌&&◌, cond, not, List, [], ◌∷◌, ◌++◌, take, length, refl, sym, ap, ◌∙◌, subst, arith, Option, Some, None, IfSome, Result, Ok, Err, ◌⊎◌, inl, inr}
+use Rattle.std.proofs.Common.{◌≡◌, ℕ, ◌+◌, ◌<◌, ◌≤◌, ℤ, pos, ◌+ℤ◌, ◌≤ℤ◌, ◌<ℤ◌, int_lt, Bool, true, false, ◌&&◌, cond, not, List, [], ◌∷◌, ◌++◌, take, length, refl, sym, ap, ◌∙◌, subst, arith, Option, Some, IfSome, Result, Ok, Err, ◌⊎◌, inl, inr}
 use Rattle.std.proofs.lemmas.Int.{ints}
 use Rattle.std.proofs.Math.ListN.{get_or}
 use Rattle.std.proofs.lemmas.List.{take_more, take_all}
 use Rattle.std.specs.Int.{int_max}
-use Rattle.std.specs.List.{AllByRecursion}
 use Rattle.std.specs.Result.{result_unwrap_or}
 use Rattle.std.specs.FinMap.{entries}
 use Rattle.contract.specs.Collections.Total.{total}
@@ -26,14 +25,12 @@ use Rattle.contract.specs.States.States.{StateMaps, AllPositive, counted, in_tok
 use Rattle.semantics.specs.Evaluation.Numbers.{all_fit}
 use Rattle.semantics.specs.Walk.{Standing, standing, answer_of}
 use Rattle.semantics.specs.Reduction.{account_of}
-use Rattle.semantics.specs.Closing.{IsSpent}
 use Rattle.semantics.specs.Money.{taken_out, paid_out, brought as put_in, deposited, MoneyIsKept}
 use Rattle.semantics.specs.Naturals.{AreNatural, PaymentsAreNatural, AccountsStayPositive}
 use Rattle.semantics.proofs.Integers.{true_lt, false_lt}
 use Rattle.analysis_spec.specs.declared.paid.PaidRange.{PaidRange}
 use Rattle.analysis_spec.specs.Analysed.{IsUnnamed, PaysWithinRanges, PaysOthersNothing}
-use Rattle.analysis_spec.specs.Promises.{PaysBetween}
-use Rattle.analysis_spec.specs.Runs.{walk_from, standing_after, stands_after, paid_with, payments_of, reaches_party, paid_to}
+use Rattle.analysis_spec.specs.Runs.{walk_from, stands_after, paid_with, payments_of, reaches_party, paid_to}
 use Rattle.losses.specs.declared.loss.Loss.{Loss}
 use Rattle.losses.specs.Losses.{brought, inputs_with, inputs_of, brought_by, LosesAtMost}
 use Rattle.losses.specs.Told.{LoseWithin, OthersLoseNothing}

@@ -1,5 +1,5 @@
 -- Floors that a walk finds: they hold of whichever floors are no higher than those that are found.
-use Rattle.std.specs.Prelude.{◌≡◌, ◌≢◌, take, get_or, ℕ, ℤ, pos, neg_ℤ, ◌≤ℤ◌, Bool, true, List, [], ◌∷◌, ◌++◌, map, is_some, Option, Some, None, IfSome}
+use Rattle.std.specs.Prelude.{◌≡◌, ◌≢◌, take, get_or, ℕ, ℤ, pos, neg_ℤ, ◌≤ℤ◌, Bool, List, [], ◌∷◌, ◌++◌, map, Option, Some, None, IfSome, ◌⊎◌}
 use Rattle.std.specs.List.{AllByRecursion}
 use Rattle.std.specs.Option.{IsSomeAnd}
 use Rattle.std.specs.FinMap.Entries.{find}
@@ -40,30 +40,26 @@ abbrev pub least_of : Option Floor → Option ℤ
 least_of None = Some (pos 0)
 least_of (Some f) = f.least
 
--- a number is a floor for an account: no more than what its row has
-abbrev pub IsFloor : Rows → Account → ℤ → Type 0
-IsFloor rows a n = IsUnder (least_of (find account_cmp a rows)) n
+abbrev pub IsOneOf : List Account → Account → Type 0
+IsOneOf [] a = ⊥
+IsOneOf (x ∷ xs) a = (a ≡ x) ⊎ IsOneOf xs a
+
+-- a number is a floor for an account: no more than what its row has, and no more than 0, unless it is one of those that are asked
+-- at each close
+abbrev pub IsFloor : List Account → Rows → Account → ℤ → Type 0
+IsFloor asked rows a n = ((n ≤ℤ pos 0) ⊎ IsOneOf asked a) × IsUnder (least_of (find account_cmp a rows)) n
 
 -- what holds of an account and a floor
 abbrev pub Shown : Type 1
 Shown = Account → ℤ → Type 0
 
 -- more is found, and with it something is shown
-abbrev pub Finds : Shown → Rows → Rows → Type 0
-Finds Shows old new = (a : Account) (n : ℤ) → IsFloor new a n → IsFloor old a n × Shows a n
+abbrev pub Finds : List Account → Shown → Rows → Rows → Type 0
+Finds asked Shows old new = (a : Account) (n : ℤ) → IsFloor asked new a n → IsFloor asked old a n × Shows a n
 
--- the accounts of rows
-abbrev pub accounts_of : Rows → List Account
-accounts_of rows = let account : Account × Floor → Account = λ e. e.0 in map account rows
-
-abbrev pub HasRow : Rows → Account → Type 0
-HasRow rows x = is_some (find account_cmp x rows) ≡ true
-
--- one account more has a row, and the floors are as before
-pub record Sees (x : Account) (old new : Rows) : Type 0 where
-  pub own : HasRow new x
-  pub kept : (a : Account) → HasRow old a → HasRow new a
-  pub floors : (a : Account) (n : ℤ) → IsFloor new a n → IsFloor old a n
+-- .. whichever accounts are asked
+abbrev pub FindsAll : Shown → Rows → Rows → Type 0
+FindsAll Shows old new = (asked : List Account) → Finds asked Shows old new
 
 -- ---- what is shown
 
@@ -130,7 +126,7 @@ IsTurned least n = (pos 0 ≤ℤ n) × IsUnder least (neg_ℤ n)
 
 -- each loss that is told is one for a floor
 abbrev pub AreFloors : Rows → List Loss → Type 0
-AreFloors rows losses = AllByRecursion (λ (l : Loss). IfSome l.most (λ n. IsFloor rows (account_of l.party l.token) (neg_ℤ n))) losses
+AreFloors rows losses = AllByRecursion (λ (l : Loss). IfSome l.most (λ n. IsFloor [] rows (account_of l.party l.token) (neg_ℤ n))) losses
 
 -- the row of an account is told, unless it has no loss
 pub record Tells (rows : Rows) (x : Account) (old new : List Loss) : Type 0 where
@@ -140,23 +136,23 @@ pub record Tells (rows : Rows) (x : Account) (old new : List Loss) : Type 0 wher
 
 -- who isn't named has a floor of 0
 abbrev pub NameAll : Rows → List Loss → Type 0
-NameAll rows losses = (p : Party) (t : Token) → IsUnnamed losses p t → IsFloor rows (account_of p t) (pos 0)
+NameAll rows losses = (p : Party) (t : Token) → IsUnnamed losses p t → IsFloor [] rows (account_of p t) (pos 0)
 
 -- what rows say of a party that keeps up
-abbrev pub RowsHoldWhile : Bool → Party → Rows → StateMaps → ContractTree → Type 0
-RowsHoldWhile net party rows s c = (t : Token) (n : ℤ) → IsFloor rows (account_of party t) n → HoldsWhile net party t n s c
+abbrev pub RowsHoldWhile : Bool → Party → List Account → Rows → StateMaps → ContractTree → Type 0
+RowsHoldWhile net party asked rows s c = (t : Token) (n : ℤ) → IsFloor asked rows (account_of party t) n → HoldsWhile net party t n s c
 
 -- each of these is told by such rows: what is paid at least, and what is lost at most
-abbrev pub AreToldBy : Party → Rows → Rows → List Kept → Type 0
-AreToldBy party paid net all =
-    AllByRecursion (λ (k : Kept). IfSome k.least (IsFloor paid (account_of party k.token)) × IfSome k.most (λ n. IsFloor net (account_of party k.token) (neg_ℤ n))) all
+abbrev pub IsToldBy : Party → List Account → Rows → Rows → Kept → Type 0
+IsToldBy party asked paid net k =
+    IfSome k.least (IsFloor asked paid (account_of party k.token)) × IfSome k.most (λ n. IsFloor asked net (account_of party k.token) (neg_ℤ n))
 
 -- who isn't told has no row
 abbrev pub TellsAllOf : Party → Rows → List Kept → Type 0
 TellsAllOf party net all = (t : Token) → IsUntold all t → find account_cmp (account_of party t) net ≡ None
 
 -- the row of an account is told, if it is of the party
-pub record TellsOwn (party : Party) (paid net : Rows) (x : Account) (old new : List Kept) : Type 0 where
+pub record TellsOwn (party : Party) (asked : List Account) (paid net : Rows) (x : Account) (old new : List Kept) : Type 0 where
   pub kept : (t : Token) → IsUntold new t → IsUntold old t
   pub own : IsUntold new x.token → x.owner ≢ party
-  pub told : AreToldBy party paid net old → AreToldBy party paid net new
+  pub told : AllByRecursion (IsToldBy party asked paid net) old → AllByRecursion (IsToldBy party asked paid net) new

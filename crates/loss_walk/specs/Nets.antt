@@ -1,6 +1,7 @@
 -- What a party has been paid of a token, less what it brought where that is asked, stays above a floor wherever a contract is
 -- closed, told along its tree. No reader of the promises needs this file: they follow from it (`NetsBoundLosses`, `NetsBoundKept`).
 use Rattle.std.specs.Prelude.{◌≡◌, ℤ, pos, neg_ℤ, ◌+ℤ◌, ◌-ℤ◌, ◌≤ℤ◌, ◌<ℤ◌, Bool, true, false, cond, List, [], ◌∷◌, Some, None}
+use Rattle.contract.specs.Names.declared.account.Account.{Account}
 use Rattle.contract.specs.Names.declared.party.Party.{Party}
 use Rattle.contract.specs.Names.declared.token.Token.{Token}
 use Rattle.contract.specs.declared.input.Input.{Input}
@@ -57,10 +58,10 @@ module _ (question : Question) (party : Party) (token : Token) (floor : ℤ) whe
 
 -- what is asked of all runs, and of those in which a party keeps up
 abbrev pub of_all_runs : Question
-of_all_runs = record { keeper = None; net = true }
+of_all_runs = record { keeper = None; net = true; asked = [] }
 
-abbrev pub while_keeping_up : Party → Bool → Question
-while_keeping_up party net = record { keeper = Some party; net = net }
+abbrev pub while_keeping_up : Party → Bool → List Account → Question
+while_keeping_up party net asked = record { keeper = Some party; net = net; asked = asked }
 
 -- what a floor says of a party that keeps up
 abbrev pub HoldsWhile : Bool → Party → Token → ℤ → StateMaps → ContractTree → Type 0
@@ -74,5 +75,5 @@ NetsBoundLosses = (party : Party) (token : Token) (floor : ℤ) (s : StateMaps) 
 -- .. and what it gets while it keeps up
 abbrev pub NetsBoundKept : Type 0
 NetsBoundKept =
-    (net : Bool) (party : Party) (token : Token) (floor : ℤ) (s : StateMaps) (c : ContractTree) →
-    NetsFrom (while_keeping_up party net) party token floor s c → HoldsWhile net party token floor s c
+    (net : Bool) (asked : List Account) (party : Party) (token : Token) (floor : ℤ) (s : StateMaps) (c : ContractTree) →
+    NetsFrom (while_keeping_up party net asked) party token floor s c → HoldsWhile net party token floor s c

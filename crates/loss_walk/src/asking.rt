@@ -33,10 +33,5 @@ fn is_own(party: &Party, action: &Action) -> bool
 fn has_number(bounds: &[Bound]) -> bool
     ensures { result ≡ list_any (λ bound. int_le bound.from bound.to) bounds.now }
 {
-    for bound in bounds {
-        if bound.from <= bound.to {
-            return true;
-        }
-    }
-    false
+    bounds.iter().any(|bound| bound.from <= bound.to)
 }

@@ -27,16 +27,6 @@ pub(crate) fn raised() -> Floor {
     }
 }
 
-/// The row as it is, or that of no row.
-pub(crate) fn seen(row: Option<Floor>) -> Floor
-    ensures { result.least ≡ least_of row }
-{
-    Floor {
-        least: least_of(row),
-        brings: brings(row),
-    }
-}
-
 /// Whether the party of a row brings something.
 pub(crate) fn brings(row: Option<Floor>) -> bool {
     match row {

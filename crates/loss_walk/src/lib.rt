@@ -27,6 +27,6 @@ mod sole;
 mod timeless;
 mod walk;
 
-pub use keeping::kept_up;
+pub use keeping::{MOST_ASKED, kept_up};
 pub use laws::{nets_bound_kept, nets_bound_losses};
 pub use losing::losses_of;

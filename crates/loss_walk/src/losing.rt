@@ -48,10 +48,18 @@ fn walked_losses(alloc: Global, contract: &Contract, state: &State) -> Result<It
     let question = Question {
         keeper: None,
         net: true,
+        asked: Items::new(alloc),
     };
     let known = start(alloc, state)?;
     let mut rows = Entries::new(alloc);
-    walk(alloc, &question, Quiet::from(state.min_time()), known, contract, &mut rows)?;
+    walk(
+        alloc,
+        &question,
+        Quiet::from(state.min_time()),
+        known,
+        contract,
+        &mut rows,
+    )?;
     let all = told(alloc, &rows)?;
     Ok(all)
 }

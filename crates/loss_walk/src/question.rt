@@ -1,5 +1,5 @@
 //! What a walk is asked.
-use contract::Party;
+use contract::{Account, Items, Party};
 
 /// Of which runs floors are wanted, and of what.
 #[derive(Debug, Drop)]
@@ -8,4 +8,6 @@ pub(crate) struct Question {
     pub(crate) keeper: Option<Party>,
     /// Whether what a party brings is taken off what it is paid.
     pub(crate) net: bool,
+    /// The accounts of which floors above 0 are wanted: each close is asked of them.
+    pub(crate) asked: Items<Account>,
 }

@@ -33,11 +33,11 @@ pub(crate) fn walk(
     contract: &Contract,
     rows: &mut Entries<Account, Floor>,
 ) -> Result<(), Memory>
-    ensures { OnOk result (Finds (IsCovered question.now quiet known (contract_tree contract.now)) rows.old rows.new) }
+    ensures { OnOk result (Finds question.now.asked (IsCovered question.now quiet known (contract_tree contract.now)) rows.old rows.new) }
 {
     match contract {
         Contract::Close => {
-            put_close(alloc, rows, &known)?;
+            put_close(rows, &known, question.asked.as_slice())?;
             Ok(())
         }
         Contract::Pay(from, to, token, amount, then) => {
@@ -53,11 +53,29 @@ pub(crate) fn walk(
                 if_true,
                 if_false,
             } = branch(alloc, &known, observation)?;
-            walk_both(alloc, question, next, if_true, then.get(), if_false, otherwise.get(), rows)?;
+            walk_both(
+                alloc,
+                question,
+                next,
+                if_true,
+                then.get(),
+                if_false,
+                otherwise.get(),
+                rows,
+            )?;
             Ok(())
         }
         Contract::When(cases, timeout, then) => {
-            walk_when(alloc, question, quiet, known, cases.as_slice(), *timeout, then.get(), rows)?;
+            walk_when(
+                alloc,
+                question,
+                quiet,
+                known,
+                cases.as_slice(),
+                *timeout,
+                then.get(),
+                rows,
+            )?;
             Ok(())
         }
         Contract::Let(name, value, then) => {
@@ -84,7 +102,7 @@ fn go_on(
     contract: &Contract,
     rows: &mut Entries<Account, Floor>,
 ) -> Result<(), Memory>
-    ensures { OnOk result (Finds (CoversNext question.now quiet known contract.now) rows.old rows.new) }
+    ensures { OnOk result (Finds question.now.asked (CoversNext question.now quiet known contract.now) rows.old rows.new) }
 {
     let Some(there) = known else {
         return Ok(());
@@ -105,7 +123,7 @@ fn walk_both(
     otherwise: &Contract,
     rows: &mut Entries<Account, Floor>,
 ) -> Result<(), Memory>
-    ensures { OnOk result (Finds (CoversBoth question.now quiet if_true then.now if_false otherwise.now) rows.old rows.new) }
+    ensures { OnOk result (Finds question.now.asked (CoversBoth question.now quiet if_true then.now if_false otherwise.now) rows.old rows.new) }
 {
     go_on(alloc, question, quiet, if_true, then, rows)?;
     go_on(alloc, question, quiet, if_false, otherwise, rows)?;
@@ -125,7 +143,7 @@ fn walk_when(
     then: &Contract,
     rows: &mut Entries<Account, Floor>,
 ) -> Result<(), Memory>
-    ensures { OnOk result (Finds (CoversWhen question.now quiet known cases.now timeout then.now) rows.old rows.new) }
+    ensures { OnOk result (Finds question.now.asked (CoversWhen question.now quiet known cases.now timeout then.now) rows.old rows.new) }
 {
     let known = later(known)?;
     if quiet.cuts(question, cases, timeout) {
@@ -133,7 +151,7 @@ fn walk_when(
         walk_cases(alloc, question, Quiet::from(timeout), waiting, cases, rows)?;
         Ok(())
     } else if is_closed(then) {
-        put_close(alloc, rows, &known)?;
+        put_close(rows, &known, question.asked.as_slice())?;
         let waiting = wait(alloc, known, timeout)?;
         walk_cases(alloc, question, Quiet::from(timeout), waiting, cases, rows)?;
         Ok(())
@@ -156,7 +174,7 @@ fn walk_cases(
     cases: &[Case],
     rows: &mut Entries<Account, Floor>,
 ) -> Result<(), Memory>
-    ensures { OnOk result (Finds (CoversEachIf question.now quiet known cases.now) rows.old rows.new) }
+    ensures { OnOk result (Finds question.now.asked (CoversEachIf question.now quiet known cases.now) rows.old rows.new) }
 {
     let Some(each) = known else {
         return Ok(());
@@ -169,7 +187,15 @@ fn walk_cases(
     for index in 0..last {
         walk_copied(alloc, question, quiet, &each, cases, index, rows)?;
     }
-    walk_case(alloc, question, quiet, each, &cases[..last], &cases[last], rows)?;
+    walk_case(
+        alloc,
+        question,
+        quiet,
+        each,
+        &cases[..last],
+        &cases[last],
+        rows,
+    )?;
     Ok(())
 }
 
@@ -185,10 +211,18 @@ fn walk_copied(
     rows: &mut Entries<Account, Floor>,
 ) -> Result<(), Memory>
     requires { index < length cases.now }
-    ensures { OnOk result (Finds (CoversIndex question.now quiet known.now cases.now index) rows.old rows.new) }
+    ensures { OnOk result (Finds question.now.asked (CoversIndex question.now quiet known.now cases.now index) rows.old rows.new) }
 {
     let copy = known.try_clone()?;
-    walk_case(alloc, question, quiet, copy, &cases[..index], &cases[index], rows)?;
+    walk_case(
+        alloc,
+        question,
+        quiet,
+        copy,
+        &cases[..index],
+        &cases[index],
+        rows,
+    )?;
     Ok(())
 }
 
@@ -203,7 +237,7 @@ fn walk_case(
     case: &Case,
     rows: &mut Entries<Account, Floor>,
 ) -> Result<(), Memory>
-    ensures { OnOk result (Finds (CoversBehind question.now quiet known earlier.now case.now) rows.old rows.new) }
+    ensures { OnOk result (Finds question.now.asked (CoversBehind question.now quiet known earlier.now case.now) rows.old rows.new) }
 {
     let there = take_action(alloc, question.net, known, earlier, &case.action)?;
     note(rows, &case.action, there.is_some())?;

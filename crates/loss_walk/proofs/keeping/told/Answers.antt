@@ -7,7 +7,7 @@ loop-account-preserved c =
     let tells = c.in_ok-put_own.ensures in
     record {
       told = tells.told i.told;
-      rows = told_more c.args.party.now c.args.paid.now c.args.net.now c.as_slice-account-items.result.now c.loop-account.account-index c.loop-account-item.result c.loop-account.all c.put_own.new.all c.loop-account-test.true c.loop-account-item.is i.rows tells;
+      rows = told_more c.args.party.now c.args.asked.now c.args.paid.now c.args.net.now c.as_slice-account-items.result.now c.loop-account.account-index c.loop-account-item.result c.loop-account.all c.put_own.new.all c.loop-account-test.true c.loop-account-item.is i.rows tells;
     }
 
 pub returns-clause-all : goal.returns-clause-all
