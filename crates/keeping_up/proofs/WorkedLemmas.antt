@@ -1,5 +1,5 @@
 -- The worked runs.
-use Rattle.std.proofs.Common.{◌≡◌, ℤ, pos, ◌≤ℤ◌, ◌<ℤ◌, int_lt, int_le, Bool, true, false, cond, List, [], ◌∷◌, refl, arith, Result, Ok, Err, IfOk, Option, Some, None, IfSome}
+use Rattle.std.proofs.Common.{◌≡◌, ℤ, pos, ◌≤ℤ◌, ◌<ℤ◌, int_lt, int_le, Bool, true, false, cond, List, [], ◌∷◌, refl, arith, Result, Ok, Err, IfOk, Some, None, IfSome}
 use Rattle.std.proofs.lemmas.Int.{ints}
 use Rattle.contract.specs.Names.declared.party.Party.{Party}
 use Rattle.contract.specs.declared.fault.SemFault.{SemFault}
@@ -7,7 +7,6 @@ use Rattle.contract.specs.declared.fault.SemFault.TheVariants.{Ambiguous}
 use Rattle.contract.specs.declared.input.Input.{Input}
 use Rattle.contract.specs.declared.input.Input.TheVariants.{Deposit}
 use Rattle.contract.specs.declared.transaction.Transaction.{Transaction}
-use Rattle.contract.specs.declared.interval.Interval.{Interval}
 use Rattle.contract.specs.Names.Equal.{ada}
 use Rattle.contract.specs.Tree.{constant, deposit, ContractTree, CaseTrees, close, when, no_cases, case_then}
 use Rattle.contract.specs.States.States.{StateMaps}

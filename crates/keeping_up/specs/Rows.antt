@@ -1,5 +1,5 @@
 -- Worked runs: who keeps up in them.
-use Rattle.std.specs.Prelude.{◌≡◌, ℤ, pos, neg_ℤ, List, [], ◌∷◌, Some, None}
+use Rattle.std.specs.Prelude.{◌≡◌, ℤ, pos, List, [], ◌∷◌, Some, None}
 use Rattle.contract.specs.Names.declared.party.Party.{Party}
 use Rattle.contract.specs.Names.declared.choice_id.ChoiceId.{ChoiceId}
 use Rattle.contract.specs.Names.declared.bound.Bound.{Bound}
@@ -7,7 +7,6 @@ use Rattle.contract.specs.Names.Equal.{ada}
 use Rattle.contract.specs.declared.input.Input.TheVariants.{Deposit}
 use Rattle.contract.specs.declared.transaction.Transaction.{Transaction}
 use Rattle.contract.specs.Tree.{constant, true_obs, deposit, choice, notify, ContractTree, close, when, no_cases, case_then}
-use Rattle.contract.specs.States.States.{StateMaps}
 use Rattle.semantics.specs.Walk.{standing}
 use Rattle.semantics.specs.Rows.{interval, party_a, party_b, nothing}
 use Rattle.keeping_up.specs.KeepsUp.{waits_at, KeepsUp}
