@@ -1,7 +1,6 @@
 -- What is told of a party that keeps up: in lines behind the others for people, or in a last member of the object for tools.
 use Rattle.std.specs.Prelude.{ℕ, ℤ, pos, ◌-◌, int_lt, unsigned_abs, if◌then◌else◌, Bool, true, false, List, [], ◌∷◌, ◌++◌, flat_map, length, map, take, Option, Some, None, codes}
 use Rattle.std.specs.Fmt.{decimal, signed_decimal}
-
 use Rattle.serde_json.specs.Data.{Data, array, null}
 use Rattle.serde_json.specs.View.{items_of}
 use Rattle.serde_json.specs.Written.{compact_text}
