@@ -9,9 +9,12 @@ ghost use Rattle.symbols.specs.Held.{GivesAny, Learns, Assumes};
 ghost use Rattle.symbols.specs.Joined.{Joins};
 ghost use Rattle.analysis_values.specs.Known.{held, with_account, with_paid, with_choice, with_bound};
 ghost use Rattle.analysis_values.specs.Entries.{known_of_state, keys_of};
+ghost use Rattle.analysis_values.specs.Replaced.{IsAsKnown};
 ghost use Rattle.analysis_values.specs.Answered.{StaysWhereSaid, AddsTime};
 
-use crate::lookup::{AccountOf, found, has, in_expressions, or_zero, put_first, put_keys};
+use crate::lookup::{
+    AccountOf, found, has, in_expressions, or_zero, put_account, put_first, put_keys,
+};
 use crate::stays::stays;
 use crate::view::View;
 use contract::{Account, ChoiceId, Items, Memory, Party, State, Text, Token, TryClone};
@@ -192,6 +195,31 @@ impl Known {
         )
     }
 
+    /// Sets what the account of a party holds of a token, in place of what it held: each account has one entry, so that a copy
+    /// and a look-up cost no more for all that it held before.
+    pub fn replace_account(
+        &mut self,
+        owner: &Party,
+        token: &Token,
+        amount: Linear,
+    ) -> Result<(), Memory>
+        ensures { OnOk result (IsAsKnown (with_account self.old owner.now token.now amount) self.new) }
+    {
+        put_account(&mut self.view.accounts, owner, token, amount)
+    }
+
+    /// Sets what a party was paid of a token, in place of what it was paid before.
+    pub fn replace_paid(
+        &mut self,
+        party: &Party,
+        token: &Token,
+        amount: Linear,
+    ) -> Result<(), Memory>
+        ensures { OnOk result (IsAsKnown (with_paid self.old party.now token.now amount) self.new) }
+    {
+        put_account(&mut self.view.paid, party, token, amount)
+    }
+
     /// Sets the number of a choice.
     pub fn set_choice(&mut self, id: &ChoiceId, number: Linear) -> Result<(), Memory>
         ensures { OnOk result (self.new ≡ with_choice self.old id.now number) }
@@ -250,10 +278,13 @@ impl Known {
         self.symbols.assume(number)
     }
 
-    /// Whether an expression is shown to be at least 0.
+    /// Whether an expression is shown to be at least 0. Facts say nothing of a number, here and below.
     pub fn shows(&self, number: &Linear) -> bool
         ensures { result ≡ true → IsShown self.now.symbols.ranges self.now.symbols.facts number.now }
     {
+        if number.is_number() && number.constant() < 0 {
+            return false;
+        }
         self.symbols.shows(number)
     }
 
@@ -268,6 +299,9 @@ impl Known {
     pub fn least(&self, number: &Linear) -> Option<i128>
         ensures { IsFromAll self.now.symbols.ranges self.now.symbols.facts (λ r. number_at r number.now) result }
     {
+        if number.is_number() {
+            return self.symbols.some_least(number);
+        }
         self.symbols.least(number)
     }
 
@@ -275,6 +309,9 @@ impl Known {
     pub fn greatest(&self, number: &Linear) -> Option<i128>
         ensures { IsUpToAll self.now.symbols.ranges self.now.symbols.facts (λ r. number_at r number.now) result }
     {
+        if number.is_number() {
+            return Some(number.constant());
+        }
         self.symbols.greatest(number)
     }
 
