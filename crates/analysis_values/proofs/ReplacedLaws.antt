@@ -58,7 +58,7 @@ module _ (scope : Scope) (r : Valuation) (i : Interval) (s : StateMaps) (ps : Li
   as_number : (a : Account) (old new : List (Account × Linear)) → AreAsFound old new → number_at r (unwrap_or (find account_cmp a old) (number (pos 0))) ≡ number_at r (unwrap_or (find account_cmp a new) (number (pos 0)))
   as_number a old new h = ap (λ (o : Option Linear). number_at r (unwrap_or o (number (pos 0)))) (sym (h.found a))
 
-  seen_as : (v : View) (held paid : List (Account × Linear)) → AreAsFound v.accounts held → AreAsFound v.paid paid → IsSeen scope r v i s ps → IsSeen scope r (record v { accounts = held; paid = paid }) i s ps
+  pub seen_as : (v : View) (held paid : List (Account × Linear)) → AreAsFound v.accounts held → AreAsFound v.paid paid → IsSeen scope r v i s ps → IsSeen scope r (record v { accounts = held; paid = paid }) i s ps
   seen_as v held paid h k e = record {
     accounts = λ a. e.accounts a ∙ as_number a v.accounts held h;
     choices = e.choices;
@@ -76,7 +76,7 @@ module _ (scope : Scope) (r : Valuation) (i : Interval) (s : StateMaps) (ps : Li
     to = e.to;
   }
 
-below_as : (n : ℕ) (v : View) (held paid : List (Account × Linear)) → AreAsFound v.accounts held → AreAsFound v.paid paid → SeesBelow n v → SeesBelow n (record v { accounts = held; paid = paid })
+pub below_as : (n : ℕ) (v : View) (held paid : List (Account × Linear)) → AreAsFound v.accounts held → AreAsFound v.paid paid → SeesBelow n v → SeesBelow n (record v { accounts = held; paid = paid })
 below_as n v held paid h k b = record { accounts = h.below n b.accounts; choices = b.choices; bound = b.bound; paid = k.below n b.paid; start = b.start; end = b.end; times = b.times }
 
 module _ (scope : Scope) (k m : Known) (i : Interval) (s : StateMaps) (ps : List Payment) (h : IsAsKnown k m) (d : IsDescribed scope k i s ps) where
