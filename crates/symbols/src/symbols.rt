@@ -42,6 +42,8 @@ pub struct Symbols {
     // how many facts there were in all, and how many expressions that aren't 0
     pub(crate) learned: usize,
     pub(crate) told_apart: usize,
+    // how many symbols there were when more was learned last of what they stand for
+    pub(crate) changed: usize,
 }
 
 // Dropped once.
@@ -55,6 +57,7 @@ impl Drop for Symbols {
             branches: _,
             learned: _,
             told_apart: _,
+            changed: _,
         } = self;
     }
 }
@@ -72,7 +75,7 @@ impl TryClone for Symbols {
     fn try_clone(&self) -> Result<Symbols, Memory> {
         let bounds = self.bounds.try_clone()?;
         let facts = self.facts.try_clone()?;
-        let copy = self.copy_with(bounds, facts, self.learned)?;
+        let copy = self.copy_with(bounds, facts, self.learned, self.changed)?;
         Ok(copy)
     }
 }
@@ -90,15 +93,17 @@ impl Symbols {
             branches: Items::new(alloc),
             learned: 0,
             told_apart: 0,
+            changed: 0,
         }
     }
 
-    // A copy with other ranges and facts, where there were so many facts in all.
+    // A copy with other ranges and facts, where there were so many facts in all, and so many symbols when they changed last.
     fn copy_with(
         &self,
         bounds: Ranges,
         facts: Items<Linear>,
         learned: usize,
+        changed: usize,
     ) -> Result<Symbols, Memory>
         ensures { IfOk result (λ s. s ≡ symbols_of bounds facts self.now.apart self.now.operations self.now.branches) }
     {
@@ -113,6 +118,7 @@ impl Symbols {
             branches,
             learned,
             told_apart: self.told_apart,
+            changed,
         })
     }
 
@@ -220,7 +226,8 @@ impl Symbols {
         let more = fact.try_clone()?;
         facts.push(more)?;
         let bounds = self.bounds.try_clone()?;
-        let copy = self.copy_with(bounds, facts, self.learned.saturating_add(1))?;
+        let learned = self.learned.saturating_add(1);
+        let copy = self.copy_with(bounds, facts, learned, self.bounds.len())?;
         Ok(copy)
     }
 
@@ -272,7 +279,7 @@ impl Symbols {
         put_range(&mut bounds, symbols, range)?;
         put_results(&mut bounds, self.operations.as_slice())?;
         let facts = self.facts.try_clone()?;
-        let copy = self.copy_with(bounds, facts, self.learned)?;
+        let copy = self.copy_with(bounds, facts, self.learned, self.bounds.len())?;
         Ok(copy)
     }
 
@@ -286,6 +293,7 @@ impl Symbols {
         }
         put_fact(&mut self.bounds, &mut self.facts, expression)?;
         self.learned = self.learned.saturating_add(1);
+        self.changed = self.bounds.len();
         Ok(())
     }
 
@@ -296,6 +304,7 @@ impl Symbols {
         make_room(fact.memory(), &mut self.facts, MOST_FACTS)?;
         self.facts.push(fact)?;
         self.learned = self.learned.saturating_add(1);
+        self.changed = self.bounds.len();
         Ok(())
     }
 
@@ -360,7 +369,8 @@ impl Symbols {
             others,
         )?;
         let shared = facts.len().saturating_sub(self.facts.len());
-        let joined = self.copy_with(bounds, facts, self.learned.saturating_add(shared))?;
+        let learned = self.learned.saturating_add(shared);
+        let joined = self.copy_with(bounds, facts, learned, count)?;
         Ok(joined)
     }
 
@@ -381,8 +391,44 @@ impl Symbols {
     fn narrow(&mut self, symbol: usize, range: Bounds) -> Result<(), Memory>
         ensures { OnOk result (KnowsWithin self.old self.new symbol range.least range.greatest) }
     {
+        let before = self.bounds.at(symbol);
         narrow_to(&mut self.bounds, symbol, range)?;
+        if differ(before, self.bounds.at(symbol)) {
+            self.changed = self.bounds.len();
+        }
         Ok(())
+    }
+
+    // The symbol of a product or quotient, if one of the newest has one and nothing was learned since. Its range would be the same
+    // if it were looked for again.
+    fn settled_symbol(
+        &self,
+        divides: bool,
+        first: &Linear,
+        second: &Linear,
+    ) -> Result<Option<usize>, Memory>
+        ensures { IfOk result (λ o. IfSome o (IsNamed self.now.operations divides first.now second.now)) }
+    {
+        let known = self.known_symbol(divides, first, second)?;
+        match known {
+            Some(name) => {
+                if name < self.changed {
+                    return Ok(None);
+                }
+                Ok(Some(name))
+            }
+            None => Ok(None),
+        }
+    }
+
+    // What was learned last of a product doesn't count, where both factors have one symbol: it follows from their ranges, of which
+    // the product has its own, and so it says no more of older symbols.
+    fn pass_over(&mut self, changed: usize, first: &Linear, second: &Linear)
+        ensures { self.new ≡ self.old }
+    {
+        if first.terms().len() == 1 && second.terms().len() == 1 {
+            self.changed = changed;
+        }
     }
 
     // The symbol of a product or quotient, which lies in a range: a new one, unless one of the newest is known. What one is
@@ -485,6 +531,10 @@ impl Symbols {
     ) -> Result<Linear, Memory>
         ensures { IfOk result (λ e. GivesResult false self.old self.new first.now second.now e) }
     {
+        let settled = self.settled_symbol(false, first, second)?;
+        if let Some(name) = settled {
+            return Linear::symbol(first.memory(), name);
+        }
         let count = self.count();
         let x = self.range_of(first);
         let y = self.range_of(second);
@@ -494,7 +544,9 @@ impl Symbols {
         if now == count {
             return Ok(e);
         }
+        let changed = self.changed;
         learn_product(self, first, second, &e, x, y)?;
+        self.pass_over(changed, first, second);
         Ok(e)
     }
 
@@ -597,6 +649,11 @@ impl Symbols {
         }
         self.quotient_over(dividend, divisor)
     }
+}
+
+// Whether two ranges are others.
+fn differ(one: Bounds, other: Bounds) -> bool {
+    one.least != other.least || one.greatest != other.greatest
 }
 
 // A new symbol in a range, behind all others.
