@@ -15,7 +15,7 @@ use crate::apart::sharpened;
 use crate::branched::{Branched, SharedBranch};
 use crate::cases::shows_by_cases;
 use crate::join::joined_facts;
-use crate::named::Named;
+use crate::named::Operations;
 use crate::newest::{MOST_LISTED, first_since, make_room};
 use crate::operations::{found, put_operation};
 use crate::parts::product_of_parts;
@@ -37,7 +37,7 @@ pub struct Symbols {
     pub(crate) bounds: Ranges,
     pub(crate) facts: Items<Linear>,
     pub(crate) apart: Items<Linear>,
-    pub(crate) operations: Items<Named>,
+    pub(crate) operations: Operations,
     pub(crate) branches: Items<SharedBranch>,
     // how many facts there were in all, and how many expressions that aren't 0
     pub(crate) learned: usize,
@@ -89,7 +89,7 @@ impl Symbols {
             bounds: Ranges::new(alloc),
             facts: Items::new(alloc),
             apart: Items::new(alloc),
-            operations: Items::new(alloc),
+            operations: Operations::none(alloc),
             branches: Items::new(alloc),
             learned: 0,
             told_apart: 0,

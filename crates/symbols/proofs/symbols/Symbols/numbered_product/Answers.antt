@@ -1,4 +1,4 @@
-use Rattle.std.proofs.Common.{◌≡◌}
+use Rattle.std.proofs.Common.{◌≡◌, false}
 use Rattle.std.proofs.lemmas.Result.{IfOk-weaker}
 use Rattle.linear.specs.Linear.{symbol}
 use Rattle.symbols.specs.Results.{GivesResult}
