@@ -1,9 +1,9 @@
 //! Floors of all parties and tokens, as far as a walk has come.
-ghost use Rattle.std.specs.Prelude.{OnOk};
-ghost use Rattle.loss_walk.specs.Floors.{Finds, Nothing, ClosesAbove, LowersAll, Lowers};
+ghost use Rattle.std.specs.Prelude.{◌≡◌, ℤ, true, OnOk};
+ghost use Rattle.loss_walk.specs.Floors.{Finds, Nothing, ClosesAbove, LowersAll, Lowers, IsUnder};
 
-use crate::floor::{Floor, lowered, noted};
-use analysis_steps::close;
+use crate::floor::{Floor, least_of, lowered, noted};
+use analysis_steps::close_beside;
 use analysis_values::Known;
 use contract::{Account, Action, Entries, Memory, TryClone};
 
@@ -37,10 +37,25 @@ fn put_one(
 ) -> Result<(), Memory>
     ensures { OnOk result (Finds (Lowers known.now account.now) rows.old rows.new) }
 {
-    let span = close(known, account)?;
     let row = rows.get(account);
+    let floor = least_of(row);
+    let span = close_beside(known, account, floor)?;
+    if is_kept(floor, span.least) {
+        return Ok(());
+    }
     rows.set(account, lowered(row, span.least))?;
     Ok(())
+}
+
+// Whether a floor stays as it is where so much was paid at least.
+fn is_kept(floor: Option<i128>, least: Option<i128>) -> bool
+    ensures { result ≡ true → (n : ℤ) → IsUnder floor n → IsUnder least n }
+{
+    match (floor, least) {
+        (None, _) => true,
+        (Some(floor), Some(least)) => floor <= least,
+        (Some(_), None) => false,
+    }
 }
 
 /// Notes who brings something by an action, if it can come.

@@ -1,8 +1,12 @@
-use Rattle.std.proofs.Common.{subst, Option}
+use Rattle.std.proofs.Common.{subst, ap, ◌∙◌, Option}
 use Rattle.loss_walk.specs.declared.floor.Floor.{Floor}
 use Rattle.loss_walk.specs.Floors.{IsUnder, least_of}
-use Rattle.loss_walk.proofs.FloorLemmas.{lowers_finds}
+use Rattle.loss_walk.proofs.FloorLemmas.{lowers_finds, kept_finds}
 use Rattle.loss_walk.proofs.rows.put_one.Goals as goal
+
+pub returns-then-is_kept : goal.returns-then-is_kept
+returns-then-is_kept c =
+    kept_finds c.args.known.now c.args.account.now c.args.rows.now c.least_of-floor.result c.in_ok-span.span (c.least_of-floor.ensures ∙ ap least_of c.get-row.ensures.value) (c.is_kept.ensures c.if-is_kept.true) c.in_ok-span.ensures
 
 pub returns : goal.returns
 returns c =
