@@ -161,11 +161,15 @@ def by_command(line, answer):
             return file.name
         run = subprocess.run(words_of(name, body, path), capture_output=True, encoding="utf-8")
     printed = [json.loads(it) for it in run.stdout.split("\n")[:-1]]
-    want = {}
-    if printed and "refused" in printed[-1]: want["refused"] = explained(printed.pop()["refused"], told.get("refused", {}))
+    want, unread = {}, False
+    if printed and "refused" in printed[-1]:
+        why = printed.pop()["refused"]
+        want["refused"], unread = explained(why, told.get("refused", {})), "file" in why
     if name == "play" and printed: want["ok"] = printed
-    elif name == "trace" and (printed or want.get("refused", {}).get("number")): want["ok"] = printed
+    elif name == "trace" and not unread: want["ok"] = printed
     elif printed: want["ok"] = printed[0]
+    # A part that is no JSON, a number beyond all that are read, makes its line none.
+    if told.get("refused", {}).get("of") == "line" and want["refused"]["name"] == told["refused"]["name"] == "NotJson": return
     if {**want, "id": told["id"]} != told: differs(line, want, answer)
 def ended_so(got, begins, refused):
     """Whether an answer begins so, and ends there or with a refusal that begins so."""
