@@ -123,7 +123,8 @@ def others(contract, state, transaction):
 class Differs(Exception): pass
 OF_TEXTS = ("file", "line", "column", "first", "names")
 def stands_so(told, other):
-    """Whether two numbers are told to stand there that are one: of a fraction a text may have its own spelling."""
+    """Whether two numbers are told to stand there that are one: of one that 64 bits don't hold a text may have its own spelling, and a long one is cut."""
+    if told.endswith("..") and "e" in other: return told.lstrip("-")[:12] == other.lstrip("-").replace(".", "")[:12]
     try: return float(told) == float(other)
     except ValueError: return False
 def explained(printed, told):
