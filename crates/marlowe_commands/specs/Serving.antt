@@ -14,7 +14,7 @@ use Rattle.serve.specs.Playing.{PlayTold}
 use Rattle.serve.specs.Scenarios.{TellsScenario}
 use Rattle.marlowe_commands.specs.Tasks.{play_members}
 
--- why a value isn't read as a scenario; nothing where it is, or for want of memory
+-- why a value isn't read as a scenario, or nothing, which is always allowed
 abbrev pub MayExplain : Data → List ℕ → Type 0
 MayExplain d told = (told ≡ []) ⊎ TellsScenario d told
 
