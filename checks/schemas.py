@@ -304,7 +304,7 @@ def answers():
 
 
 # Keys that are there only where they are asked for.
-ASKED_FOR = {"analysis.json": {"notes"}}
+ASKED_FOR = {"analysis.json": {"notes", "while_keeping_up"}}
 
 
 def faults_of_printed(counts):

@@ -1,3 +1,4 @@
 pub mod ToldLines
 pub mod Lines
 pub mod Tools
+pub mod Kept

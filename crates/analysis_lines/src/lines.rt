@@ -109,7 +109,7 @@ fn put_loss(alloc: Global, out: &mut Vec<u8>, loss: &ShownLoss, given: bool) -> 
 }
 
 // The end of a line: where a state is given, only what is brought from there on counts.
-fn put_given(out: &mut Vec<u8>, given: bool) -> Result<(), Memory>
+pub(crate) fn put_given(out: &mut Vec<u8>, given: bool) -> Result<(), Memory>
     ensures { OnOk result (out.new.items ≡ out.old.items ++ given_text given) }
 {
     if given {

@@ -122,7 +122,12 @@ fn put_with_run(
 }
 
 // Of whom a line speaks, and of which token.
-fn put_holder(alloc: Global, out: &mut Vec<u8>, party: &Party, token: &Token) -> Result<(), Memory>
+pub(crate) fn put_holder(
+    alloc: Global,
+    out: &mut Vec<u8>,
+    party: &Party,
+    token: &Token,
+) -> Result<(), Memory>
     ensures { OnOk result (out.new.items ≡ out.old.items ++ holder_text party.now token.now) }
 {
     let party = term_text(alloc, party)?;

@@ -340,7 +340,7 @@ fn put_run(alloc: Global, out: &mut Writer, run: &Option<Items<Transaction>>) ->
     }
 }
 
-fn put_null(out: &mut Writer) -> Result<(), Memory>
+pub(crate) fn put_null(out: &mut Writer) -> Result<(), Memory>
     ensures { OnOk result (Puts out.old out.new (run_json None)) }
 {
     out.null()?;
@@ -461,7 +461,7 @@ fn put_bound_run(
 }
 
 // A number, or null where it is not known.
-fn put_bound(alloc: Global, out: &mut Writer, bound: Option<i128>) -> Result<(), Memory>
+pub(crate) fn put_bound(alloc: Global, out: &mut Writer, bound: Option<i128>) -> Result<(), Memory>
     ensures { OnOk result (Puts out.old out.new (bound_json bound)) }
 {
     match bound {

@@ -30,7 +30,9 @@ use Rattle.losses.specs.Told.{OthersLoseNothing}
 use Rattle.analysis_values.proofs.AccountLaws.{sum_natural, refunded_is}
 use Rattle.semantics.proofs.Integers.{true_lt}
 use Rattle.analysis_steps.proofs.AmountLemmas.{paid_natural, paid_up}
-use Rattle.loss_walk.specs.Nets.{Nets, NetsCases, NetsBoundLosses}
+use Rattle.loss_walk.specs.declared.quiet.Quiet.{Quiet}
+use Rattle.loss_walk.specs.Cuts.{is_timeless, holds_timeless, quiet_from, after_reading, after_timeout}
+use Rattle.loss_walk.specs.Nets.{Nets, NetsCases, of_all_runs, NetsBoundLosses}
 use Rattle.loss_walk.specs.Asked.{is_beyond, waits_beyond, asks_beyond, ask_beyond}
 
 left : (b c : Bool) → b || c ≡ false → b ≡ false
@@ -165,30 +167,32 @@ module _ (party : Party) (token : Token) where
     -- ---- contracts
 
     mutual
-      kept : (i : Interval) (s : StateMaps) (m : ℤ) (c : ContractTree) → IsNatural s → pos 0 ≤ℤ m → asks_beyond o c ≡ false → Nets party token (pos 0) i s m c
-      kept i s m close h k e =
+      kept : (w : Quiet) (i : Interval) (s : StateMaps) (m : ℤ) (c : ContractTree) → IsNatural s → pos 0 ≤ℤ m → asks_beyond o c ≡ false → Nets of_all_runs party token (pos 0) w i s m c
+      kept w i s m close h k e =
           sum_natural m (paid_to party token (refunds s).payments) k (subst (λ z. pos 0 ≤ℤ z) (sym (refunded_is party token s)) (h (account_of party token)))
-      kept i s m (pay p y t v c) h k e =
+      kept w i s m (pay p y t v c) h k e =
           let r = pay_step s p y t (eval i s v) (visited i s v) c in
           let u = pays_natural s p y t (eval i s v) (visited i s v) c h in
-          kept i r.state (m +ℤ paid_to party token r.payments) c u.0 (sum_natural m (paid_to party token r.payments) k u.1) e
-      kept i s m (if_obs x c d) h k e = (λ q. kept i s m c h k (left (asks_beyond o c) (asks_beyond o d) e), λ q. kept i s m d h k (right (asks_beyond o c) (asks_beyond o d) e))
-      kept i s m (when ks t c) h k e =
+          kept (after_reading w (is_timeless v)) i r.state (m +ℤ paid_to party token r.payments) c u.0 (sum_natural m (paid_to party token r.payments) k u.1) e
+      kept w i s m (if_obs x c d) h k e =
+          let next = after_reading w (holds_timeless x) in
+          (λ q. kept next i s m c h k (left (asks_beyond o c) (asks_beyond o d) e), λ q. kept next i s m d h k (right (asks_beyond o c) (asks_beyond o d) e))
+      kept w i s m (when ks t c) h k e =
           λ j now g v. (
-            λ q. kept_cases j (record s { min_time = now }) m [] ks h k (left (ask_beyond o ks) (asks_beyond o c) e),
-            λ q. kept j (record s { min_time = now }) m c h k (right (ask_beyond o ks) (asks_beyond o c) e),
+            λ q. kept_cases (quiet_from t) j (record s { min_time = now }) m [] ks h k (left (ask_beyond o ks) (asks_beyond o c) e),
+            λ cut q. kept (after_timeout w t) j (record s { min_time = now }) m c h k (right (ask_beyond o ks) (asks_beyond o c) e),
           )
-      kept i s m (let_be x v c) h k e = kept i (binding s x (eval i s v) (visited i s v) c).state m c h k e
-      kept i s m (assert x c) h k e = kept i s m c h k e
+      kept w i s m (let_be x v c) h k e = kept (after_reading w (is_timeless v)) i (binding s x (eval i s v) (visited i s v) c).state m c h k e
+      kept w i s m (assert x c) h k e = kept w i s m c h k e
 
-      kept_cases : (i : Interval) (s : StateMaps) (m : ℤ) (earlier : List ActionTree) (ks : CaseTrees) → IsNatural s → pos 0 ≤ℤ m → ask_beyond o ks ≡ false → NetsCases party token (pos 0) i s m earlier ks
-      kept_cases i s m earlier no_cases h k e = tt
-      kept_cases i s m earlier (case_then a c ks) h k e =
+      kept_cases : (w : Quiet) (i : Interval) (s : StateMaps) (m : ℤ) (earlier : List ActionTree) (ks : CaseTrees) → IsNatural s → pos 0 ≤ℤ m → ask_beyond o ks ≡ false → NetsCases of_all_runs party token (pos 0) w i s m earlier ks
+      kept_cases w i s m earlier no_cases h k e = tt
+      kept_cases w i s m earlier (case_then a c ks) h k e =
           let here = left (waits_beyond o a || asks_beyond o c) (ask_beyond o ks) e in (
             λ x z q.
                 let u = takes_natural i s x a q (left (waits_beyond o a) (asks_beyond o c) here) h in
-                kept i (taken s x) (m -ℤ brought party token x) c u.0 (less_none m (brought party token x) u.1 k) (right (waits_beyond o a) (asks_beyond o c) here),
-            kept_cases i s m (a ∷ earlier) ks h k (right (waits_beyond o a || asks_beyond o c) (ask_beyond o ks) e),
+                kept w i (taken s x) (m -ℤ brought party token x) c u.0 (less_none m (brought party token x) u.1 k) (right (waits_beyond o a) (asks_beyond o c) here),
+            kept_cases w i s m (a ∷ earlier) ks h k (right (waits_beyond o a || asks_beyond o c) (ask_beyond o ks) e),
           )
 
 no_loss : neg_ℤ (pos 0) ≡ pos 0
@@ -197,7 +201,7 @@ no_loss = omega (arith, ints)
 -- who isn't the only one that may bring something brings nothing, and so loses nothing
 pub loses_nothing : NetsBoundLosses → (s : StateMaps) (c : ContractTree) → AllPositive (entries s.accounts) → (o : Option Account) → asks_beyond o c ≡ false → (p : Party) (t : Token) → (o ≡ Some (account_of p t) → ⊥) → LosesAtMost p t (pos 0) s c
 loses_nothing law s c above o e p t none =
-    subst (λ (m : ℤ). LosesAtMost p t m s c) no_loss (law p t (pos 0) s c (λ i g v. kept p t o none i (record s { min_time = i.from }) (pos 0) c (started s above) (le_self (pos 0)) e))
+    subst (λ (m : ℤ). LosesAtMost p t m s c) no_loss (law p t (pos 0) s c (λ i g v. kept p t o none (quiet_from s.min_time) i (record s { min_time = i.from }) (pos 0) c (started s above) (le_self (pos 0)) e))
 
 pub none_lose : NetsBoundLosses → (s : StateMaps) (c : ContractTree) → AllPositive (entries s.accounts) → asks_beyond None c ≡ false → OthersLoseNothing [] s c
 none_lose law s c above e p t u = loses_nothing law s c above None e p t (λ q. absurd (let k : ◌≡◌ {A = Option Account} None (Some (account_of p t)) = q in cc))

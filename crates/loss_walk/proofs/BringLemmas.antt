@@ -148,6 +148,19 @@ some_then : (P Q : Known → Type 0) (o : Option Known) → ((m : Known) → o �
 some_then P Q None f h = h
 some_then P Q (Some m) f h = f m refl h
 
+-- whatever input a case for a deposit takes, it is that deposit
+module _ (net : Bool) (k : Known) (earlier : List ActionTree) (q p : Party) (t : Token) (v : ValueTree) (o : Option Known)
+    (rest : (i : Interval) (s : StateMaps) (ps : List Payment) → IsDescribed any_runs k i s ps → NoneTakes i s (Deposit q p t (eval i s v)) earlier
+    → IsSomeAnd o (λ m. (qs : List Payment) × IsDescribed any_runs m i (taken s (Deposit q p t (eval i s v))) qs × TakesOff net ps qs (Deposit q p t (eval i s v)))) where
+  of_inputs : Takes net k earlier (deposit q p t v) o
+  of_inputs i s ps (Deposit a r u n) d f e =
+      let l = same_deposit a r u n q p t (eval i s v) e in
+      let R : Party → Party → Token → ℤ → Type 0 = λ a r u n. NoneTakes i s (Deposit a r u n) earlier → IsSomeAnd o (λ m. (qs : List Payment) × IsDescribed any_runs m i (taken s (Deposit a r u n)) qs × TakesOff net ps qs (Deposit a r u n)) in
+      let at : R a r u n = subst (λ a. R a r u n) l.0 (subst (λ r. R q r u n) l.1 (subst (λ u. R q p u n) l.2 (subst (λ n. R q p t n) l.3 (rest i s ps d)))) in
+      at f
+  of_inputs i s ps (Choice id n) d f e = absurd (cc)
+  of_inputs i s ps Notify d f e = absurd (cc)
+
 -- what was held is paid, and the deposit taken
 module _ (k z : Known) (earlier : List ActionTree) (q p : Party) (t : Token) (v : ValueTree) (x : Conclusion Known) (puts : PutsHeld k z p q t) (so : DepositsSo IsDescribed z earlier q p t v x) where
   abbrev held_paid : StateMaps → List Payment → List Payment
@@ -161,28 +174,17 @@ module _ (k z : Known) (earlier : List ActionTree) (q p : Party) (t : Token) (v 
       let there = puts i s ps (held_paid s ps) d (pays_one ps p (ToParty p) t (balance s q t)) in
       ((so any_runs i s (held_paid s ps) there).1 f).known (any_allowed (visited i s v ++ taken_numbers s input))
 
-  module _ (o : Option Known) (rest : (i : Interval) (s : StateMaps) (ps : List Payment) → IsDescribed any_runs k i s ps → NoneTakes i s (Deposit q p t (eval i s v)) earlier
-      → IsSomeAnd o (λ m. (qs : List Payment) × IsDescribed any_runs m i (taken s (Deposit q p t (eval i s v))) qs × TakesOff ps qs (Deposit q p t (eval i s v)))) where
-    of_inputs : Takes k earlier (deposit q p t v) o
-    of_inputs i s ps (Deposit a r u n) d f e =
-        let l = same_deposit a r u n q p t (eval i s v) e in
-        let R : Party → Party → Token → ℤ → Type 0 = λ a r u n. NoneTakes i s (Deposit a r u n) earlier → IsSomeAnd o (λ m. (qs : List Payment) × IsDescribed any_runs m i (taken s (Deposit a r u n)) qs × TakesOff ps qs (Deposit a r u n)) in
-        let at : R a r u n = subst (λ a. R a r u n) l.0 (subst (λ r. R q r u n) l.1 (subst (λ u. R q p u n) l.2 (subst (λ n. R q p t n) l.3 (rest i s ps d)))) in
-        at f
-    of_inputs i s ps (Choice id n) d f e = absurd (cc)
-    of_inputs i s ps Notify d f e = absurd (cc)
-
 -- what comes of a deposit where nothing is known behind it, and where something is
 pub brings_none : (k z : Known) (earlier : List ActionTree) (q p : Party) (t : Token) (v : ValueTree) (x : Conclusion Known) → PutsHeld k z p q t → DepositsSo IsDescribed z earlier q p t v x → x.known ≡ None
-    → Takes k earlier (deposit q p t v) None
+    → Takes true k earlier (deposit q p t v) None
 brings_none k z earlier q p t v x puts so none =
-    of_inputs k z earlier q p t v x puts so None
+    of_inputs true k earlier q p t v None
     (λ i s ps d f. absurd (subst (λ (o : Option Known). IsSomeAnd o (λ m. IsDescribed any_runs m i (taken s (Deposit q p t (eval i s v))) (held_paid k z earlier q p t v x puts so s ps))) none (taken_so k z earlier q p t v x puts so i s ps d f)))
 
 pub brings_some : (k z y m : Known) (earlier : List ActionTree) (q p : Party) (t : Token) (v : ValueTree) (x : Conclusion Known) → PutsHeld k z p q t → DepositsSo IsDescribed z earlier q p t v x → x.known ≡ Some y
-    → TakesHeld y m p q t → Takes k earlier (deposit q p t v) (Some m)
+    → TakesHeld y m p q t → Takes true k earlier (deposit q p t v) (Some m)
 brings_some k z y m earlier q p t v x puts so some takes =
-    of_inputs k z earlier q p t v x puts so (Some m)
+    of_inputs true k earlier q p t v (Some m)
     (λ i s ps d f.
     let n = eval i s v in
     let u = taken s (Deposit q p t n) in
@@ -196,27 +198,41 @@ brings_some k z y m earlier q p t v x puts so some takes =
           nets a p t (paid_to a.owner a.token ps) (paid_to a.owner a.token rs) (paid_to a.owner a.token qs) (balance s q t) (balance u q t) (int_max (pos 0) n) (pays_one ps p (ToParty p) t (balance s q t) a) (less a) (held_then s q p t n),
     ))
 
--- ---- a choice, and a notify
+-- ---- what takes nothing off
 
 nothing_off : (n : ℤ) → n ≡ n -ℤ pos 0
 nothing_off n = omega (arith, ints)
 
-some_off : (i : Interval) (s : StateMaps) (ps : List Payment) (x : Input) (o : Option Known) → TakesOff ps ps x → IsSomeAnd o (λ m. IsDescribed any_runs m i s ps) → IsSomeAnd o (λ m. (qs : List Payment) × IsDescribed any_runs m i s qs × TakesOff ps qs x)
-some_off i s ps x None e h = h
-some_off i s ps x (Some m) e h = (ps, h, e)
+none_off : (net : Bool) (n : ℤ) → n ≡ n -ℤ cond net (pos 0) (pos 0)
+none_off true n = nothing_off n
+none_off false n = nothing_off n
 
-pub chooses : (k : Known) (earlier : List ActionTree) (id : ChoiceId) (bounds : List Bound) (x : Conclusion Known) → ChoosesSo IsDescribed k earlier id bounds x → Takes k earlier (choice id bounds) x.known
-chooses k earlier jd bounds x so i s ps (Deposit a p t n) d f e = absurd (cc)
-chooses k earlier jd bounds x so i s ps (Choice id n) d f e =
+some_off : (net : Bool) (i : Interval) (s : StateMaps) (ps : List Payment) (x : Input) (o : Option Known) → TakesOff net ps ps x → IsSomeAnd o (λ m. IsDescribed any_runs m i s ps)
+    → IsSomeAnd o (λ m. (qs : List Payment) × IsDescribed any_runs m i s qs × TakesOff net ps qs x)
+some_off net i s ps x None e h = h
+some_off net i s ps x (Some m) e h = (ps, h, e)
+
+-- a deposit, where that isn't asked
+pub deposits : (k : Known) (earlier : List ActionTree) (q p : Party) (t : Token) (v : ValueTree) (x : Conclusion Known) → DepositsSo IsDescribed k earlier q p t v x → Takes false k earlier (deposit q p t v) x.known
+deposits k earlier q p t v x so =
+    of_inputs false k earlier q p t v x.known
+    (λ i s ps d f.
+    let input : Input = Deposit q p t (eval i s v) in
+    some_off false i (taken s input) ps input x.known (λ a. nothing_off (paid_to a.owner a.token ps)) (((so any_runs i s ps d).1 f).known (any_allowed (visited i s v ++ taken_numbers s input))))
+
+-- a choice, and a notify
+pub chooses : (net : Bool) (k : Known) (earlier : List ActionTree) (id : ChoiceId) (bounds : List Bound) (x : Conclusion Known) → ChoosesSo IsDescribed k earlier id bounds x → Takes net k earlier (choice id bounds) x.known
+chooses net k earlier jd bounds x so i s ps (Deposit a p t n) d f e = absurd (cc)
+chooses net k earlier jd bounds x so i s ps (Choice id n) d f e =
     let l = both (same_choice_id id jd) (list_any (in_bound n) bounds) e in
     let q = (same_choice_id_decides id jd).0 l.0 in
     let w = so any_runs i s ps n d (subst (λ (w : ChoiceId). NoneTakes i s (Choice w n) earlier) q f) l.1 in
-    some_off i (taken s (Choice id n)) ps (Choice id n) x.known (λ a. nothing_off (paid_to a.owner a.token ps))
+    some_off net i (taken s (Choice id n)) ps (Choice id n) x.known (λ a. none_off net (paid_to a.owner a.token ps))
     (subst (λ (w : ChoiceId). IsSomeAnd x.known (λ m. IsDescribed any_runs m i (taken s (Choice w n)) ps)) (sym q) (w.known tt))
-chooses k earlier jd bounds x so i s ps Notify d f e = absurd (cc)
+chooses net k earlier jd bounds x so i s ps Notify d f e = absurd (cc)
 
-pub notifies : (k : Known) (earlier : List ActionTree) (o : ObservationTree) (x : Conclusion Known) → NotifiesSo IsDescribed k earlier o x → Takes k earlier (notify o) x.known
-notifies k earlier o x so i s ps (Deposit a p t n) d f e = absurd (cc)
-notifies k earlier o x so i s ps (Choice id n) d f e = absurd (cc)
-notifies k earlier o x so i s ps Notify d f e =
-    some_off i s ps Notify x.known (λ a. nothing_off (paid_to a.owner a.token ps)) (((so any_runs i s ps d).1 f e).known (any_allowed (looked i s o)))
+pub notifies : (net : Bool) (k : Known) (earlier : List ActionTree) (o : ObservationTree) (x : Conclusion Known) → NotifiesSo IsDescribed k earlier o x → Takes net k earlier (notify o) x.known
+notifies net k earlier o x so i s ps (Deposit a p t n) d f e = absurd (cc)
+notifies net k earlier o x so i s ps (Choice id n) d f e = absurd (cc)
+notifies net k earlier o x so i s ps Notify d f e =
+    some_off net i s ps Notify x.known (λ a. none_off net (paid_to a.owner a.token ps)) (((so any_runs i s ps d).1 f e).known (any_allowed (looked i s o)))

@@ -25,7 +25,7 @@ use Rattle.analysis_values.specs.Entries.{keys_of}
 use Rattle.analysis_values.proofs.AccountLaws.{account_decides}
 use Rattle.analysis_steps.proofs.CloseLaws.{closes_by}
 use Rattle.loss_walk.specs.declared.floor.Floor.{Floor}
-use Rattle.loss_walk.specs.Floors.{Rows, IsUnder, least_of, IsFloor, Finds, Nothing, ClosesAbove, Lowers, LowersAll, IsTurned, AreFloors, Tells, NameAll}
+use Rattle.loss_walk.specs.Floors.{Rows, IsUnder, least_of, IsOneOf, IsFloor, Finds, FindsAll, Nothing, ClosesAbove, Lowers, LowersAll, IsTurned, AreFloors, Tells, NameAll}
 
 le_itself : (a : ℤ) → a ≤ℤ a
 le_itself a = omega (arith, ints)
@@ -51,38 +51,38 @@ module _ (x : Account) (f : Floor) (old : Rows) (own : (n : ℤ) → IsUnder f.l
   own_at a n true e q h = h
   own_at a n false e q h = absurd (let z : false ≡ true = sym e ∙ (account_decides a x).1 q in cc)
 
-  pub noted_finds : (new : Rows) → new ≡ put account_cmp x f old → Finds Nothing old new
-  noted_finds new e a n h = ((h.0, kept_at a n (eq_by_cmp account_cmp a x) refl (subst (λ (o : Option Floor). IsUnder (least_of o) n) (found x f old new e a) h.1)), tt)
+  pub noted_finds : (new : Rows) → new ≡ put account_cmp x f old → FindsAll Nothing old new
+  noted_finds new e asked a n h = ((h.0, kept_at a n (eq_by_cmp account_cmp a x) refl (subst (λ (o : Option Floor). IsUnder (least_of o) n) (found x f old new e a) h.1)), tt)
 
   under_least : (o : Option ℤ) (n y : ℤ) → IsUnder o n → IfSome o (λ m. m ≤ℤ y) → n ≤ℤ y
   under_least None n y h k = absurd h
   under_least (Some m) n y h k = reaches n m y h k
 
-  pub lowers_finds : (k : Known) (span : Span) (new : Rows) → ((n : ℤ) → IsUnder f.least n → IsUnder span.least n) → ClosesIn IsDescribed k (range_of x span ∷ []) → new ≡ put account_cmp x f old → Finds (Lowers k x) old new
-  lowers_finds k span new other closes e a n h =
+  pub lowers_finds : (k : Known) (span : Span) (new : Rows) → ((n : ℤ) → IsUnder f.least n → IsUnder span.least n) → ClosesIn IsDescribed k (range_of x span ∷ []) → new ≡ put account_cmp x f old → FindsAll (Lowers k x) old new
+  lowers_finds k span new other closes e asked a n h =
       let there = subst (λ (o : Option Floor). IsUnder (least_of o) n) (found x f old new e a) h.1 in (
         (h.0, kept_at a n (eq_by_cmp account_cmp a x) refl there),
         λ q. subst (λ (z : Account). ClosesAbove k z n) (sym q)
             (λ i s ps d. under_least span.least n _ (other n (own_at a n (eq_by_cmp account_cmp a x) refl q there)) (closes any_runs i s ps d).0.0),
       )
 
-pub nothing_noted : (rows : Rows) → Finds Nothing rows rows
-nothing_noted rows a n h = (h, tt)
+pub nothing_noted : (rows : Rows) → FindsAll Nothing rows rows
+nothing_noted rows asked a n h = (h, tt)
 
 -- ---- row after row
 
-pub lowers_none : (k : Known) (rows : Rows) → Finds (LowersAll k []) rows rows
-lowers_none k rows a n h = (h, tt)
+pub lowers_none : (k : Known) (rows : Rows) → FindsAll (LowersAll k []) rows rows
+lowers_none k rows asked a n h = (h, tt)
 
-pub lowers_more : (k : Known) (xs : List Account) (i : ℕ) (x : Account) (old now next : Rows) → i < length xs → x ≡ get_or xs i x → Finds (LowersAll k (take i xs)) old now → Finds (Lowers k x) now next
-    → Finds (LowersAll k (take (i + 1) xs)) old next
-lowers_more k xs i x old now next l is before one a n h =
-    let u = one a n h in
-    let w = before a n u.0 in
+pub lowers_more : (k : Known) (xs : List Account) (i : ℕ) (x : Account) (old now next : Rows) → i < length xs → x ≡ get_or xs i x → FindsAll (LowersAll k (take i xs)) old now → FindsAll (Lowers k x) now next
+    → FindsAll (LowersAll k (take (i + 1) xs)) old next
+lowers_more k xs i x old now next l is before one asked a n h =
+    let u = one asked a n h in
+    let w = before asked a n u.0 in
     (w.0, subst (λ (ys : List Account). LowersAll k ys a n) (sym (take_more xs i x l ∙ ap (λ y. take i xs ++ y ∷ []) (sym is))) (all_append (λ y. Lowers k y a n) (take i xs) (x ∷ []) w.1 (u.1, tt)))
 
-pub lowers_all : (k : Known) (xs : List Account) (i : ℕ) (old now : Rows) → length xs ≤ i → Finds (LowersAll k (take i xs)) old now → Finds (LowersAll k xs) old now
-lowers_all k xs i old now l h = subst (λ (ys : List Account). Finds (LowersAll k ys) old now) (take_all i xs l) h
+pub lowers_all : (k : Known) (xs : List Account) (i : ℕ) (old now : Rows) → length xs ≤ i → FindsAll (LowersAll k (take i xs)) old now → FindsAll (LowersAll k xs) old now
+lowers_all k xs i old now l h = subst (λ (ys : List Account). FindsAll (LowersAll k ys) old now) (take_all i xs l) h
 
 -- ---- who isn't named
 
@@ -113,10 +113,20 @@ module _ (k : Known) (a : Account) (n : ℤ) (low : n ≤ℤ pos 0) where
       by_accounts (inl e) (inr p) = p
       by_accounts (inl e) (inl f) = unnamed e f
 
-pub closes_found : (k : Known) (names : List Account) (old new : Rows) → names ≡ keys_of k.view.accounts ++ keys_of k.view.paid → Finds (LowersAll k names) old new → Finds (ClosesAbove k) old new
-closes_found k names old new e h a n f =
-    let u = h a n f in
-    (u.0, above k a n f.0 (subst (λ (xs : List Account). LowersAll k xs a n) e u.1))
+asked_so : (k : Known) (a : Account) (n : ℤ) (xs : List Account) → LowersAll k xs a n → IsOneOf xs a → ClosesAbove k a n
+asked_so k a n [] h w = absurd w
+asked_so k a n (x ∷ xs) h (inl e) = h.0 e
+asked_so k a n (x ∷ xs) h (inr w) = asked_so k a n xs h.1 w
+
+pub closes_found : (k : Known) (names asked : List Account) (old now new : Rows) → names ≡ keys_of k.view.accounts ++ keys_of k.view.paid → FindsAll (LowersAll k names) old now → FindsAll (LowersAll k asked) now new → Finds asked (ClosesAbove k) old new
+closes_found k names asked old now new e named also a n f =
+    let u = also asked a n f in
+    let w = named asked a n u.0 in
+    (w.0, by_wanted f.0 (subst (λ (xs : List Account). LowersAll k xs a n) e w.1) u.1)
+  where
+    by_wanted : (n ≤ℤ pos 0) ⊎ IsOneOf asked a → LowersAll k (keys_of k.view.accounts ++ keys_of k.view.paid) a n → LowersAll k asked a n → ClosesAbove k a n
+    by_wanted (inl low) h g = above k a n low h
+    by_wanted (inr one) h g = asked_so k a n asked g one
 
 -- ---- what is told
 
@@ -137,9 +147,9 @@ turned_zero least m e h = (le_itself (pos 0), subst (λ (x : Option ℤ). IsUnde
 pub tells_none : (rows : Rows) (x : Account) (all : List Loss) → least_of (find account_cmp x rows) ≡ Some (pos 0) → Tells rows x all all
 tells_none rows x all e = record { kept = λ p t h. h; named = λ h. subst (λ (o : Option ℤ). IsUnder o (pos 0)) (sym e) (le_itself (pos 0)); floors = λ h. h }
 
-natural_floor : (rows : Rows) (x : Account) (o : Option ℤ) → IfSome o (IsTurned (least_of (find account_cmp x rows))) → IfSome o (λ n. IsFloor rows x (neg_ℤ n))
+natural_floor : (rows : Rows) (x : Account) (o : Option ℤ) → IfSome o (IsTurned (least_of (find account_cmp x rows))) → IfSome o (λ n. IsFloor [] rows x (neg_ℤ n))
 natural_floor rows x None h = tt
-natural_floor rows x (Some n) h = (below n h.0, h.1)
+natural_floor rows x (Some n) h = (inl (below n h.0), h.1)
   where
     below : (n : ℤ) → pos 0 ≤ℤ n → neg_ℤ n ≤ℤ pos 0
     below n h = omega (arith, ints)
@@ -150,8 +160,8 @@ tells_one rows x l old new e is of h = record {
   named = λ u. absurd ((all_right (λ (m : Loss). m.party ≡ x.owner → m.token ≡ x.token → ⊥) old (l ∷ []) (subst (λ (ls : List Loss). IsUnnamed ls x.owner x.token) e u)).0 is of);
   floors = λ f.
       subst (AreFloors rows) (sym e)
-      (all_append (λ (m : Loss). IfSome m.most (λ n. IsFloor rows (account_of m.party m.token) (neg_ℤ n))) old (l ∷ []) f
-      (subst (λ (z : Account). IfSome l.most (λ n. IsFloor rows z (neg_ℤ n))) (sym same) (natural_floor rows x l.most h), tt));
+      (all_append (λ (m : Loss). IfSome m.most (λ n. IsFloor [] rows (account_of m.party m.token) (neg_ℤ n))) old (l ∷ []) f
+      (subst (λ (z : Account). IfSome l.most (λ n. IsFloor [] rows z (neg_ℤ n))) (sym same) (natural_floor rows x l.most h), tt));
 }
   where
     same : account_of l.party l.token ≡ x
@@ -182,7 +192,7 @@ named_all rows es i all same l h p t u =
     let a = account_of p t in
     let P : Account → Type 0 = λ b. IsUnnamed all b.owner b.token → IsUnder (least_of (find account_cmp b rows)) (pos 0) in
     let each = subst (AllByRecursion (λ (e : Account × Floor). P e.0)) (take_all i es l ∙ same) h in
-    (le_itself (pos 0), by_row (has_row P a rows each))
+    (inl (le_itself (pos 0)), by_row (has_row P a rows each))
   where
     by_row : (find account_cmp (account_of p t) rows ≡ None) ⊎ (IsUnnamed all p t → IsUnder (least_of (find account_cmp (account_of p t) rows)) (pos 0)) → IsUnder (least_of (find account_cmp (account_of p t) rows)) (pos 0)
     by_row (inl e) = subst (λ (o : Option Floor). IsUnder (least_of o) (pos 0)) (sym e) (le_itself (pos 0))

@@ -1,3 +1,4 @@
+mod KeepLemmas
 mod NetLemmas
 mod BringLemmas
 mod FloorLemmas
@@ -6,3 +7,4 @@ mod NodesLemmas
 mod AskedLemmas
 mod SameLemmas
 mod SoleLemmas
+mod KeptLemmas

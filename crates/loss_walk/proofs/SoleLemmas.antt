@@ -1,10 +1,9 @@
 -- What one party loses goes to the others.
-use Rattle.std.proofs.Common.{◌≡◌, ℕ, ◌+◌, ◌<◌, ◌≤◌, ℤ, pos, neg_ℤ, ◌+ℤ◌, ◌-ℤ◌, ◌≤ℤ◌, ◌<ℤ◌, int_lt, Bool, true, false, ◌&&◌, cond, not, List, [], ◌∷◌, ◌++◌, take, length, refl, sym, ap, ◌∙◌, subst, arith, Option, Some, None, IfSome, Result, Ok, Err, ◌⊎◌, inl, inr}
+use Rattle.std.proofs.Common.{◌≡◌, ℕ, ◌+◌, ◌<◌, ◌≤◌, ℤ, pos, ◌+ℤ◌, ◌≤ℤ◌, ◌<ℤ◌, int_lt, Bool, true, false, ◌&&◌, cond, not, List, [], ◌∷◌, ◌++◌, take, length, refl, sym, ap, ◌∙◌, subst, arith, Option, Some, IfSome, Result, Ok, Err, ◌⊎◌, inl, inr}
 use Rattle.std.proofs.lemmas.Int.{ints}
 use Rattle.std.proofs.Math.ListN.{get_or}
 use Rattle.std.proofs.lemmas.List.{take_more, take_all}
 use Rattle.std.specs.Int.{int_max}
-use Rattle.std.specs.List.{AllByRecursion}
 use Rattle.std.specs.Result.{result_unwrap_or}
 use Rattle.std.specs.FinMap.{entries}
 use Rattle.contract.specs.Collections.Total.{total}
@@ -26,14 +25,12 @@ use Rattle.contract.specs.States.States.{StateMaps, AllPositive, counted, in_tok
 use Rattle.semantics.specs.Evaluation.Numbers.{all_fit}
 use Rattle.semantics.specs.Walk.{Standing, standing, answer_of}
 use Rattle.semantics.specs.Reduction.{account_of}
-use Rattle.semantics.specs.Closing.{IsSpent}
 use Rattle.semantics.specs.Money.{taken_out, paid_out, brought as put_in, deposited, MoneyIsKept}
 use Rattle.semantics.specs.Naturals.{AreNatural, PaymentsAreNatural, AccountsStayPositive}
 use Rattle.semantics.proofs.Integers.{true_lt, false_lt}
 use Rattle.analysis_spec.specs.declared.paid.PaidRange.{PaidRange}
 use Rattle.analysis_spec.specs.Analysed.{IsUnnamed, PaysWithinRanges, PaysOthersNothing}
-use Rattle.analysis_spec.specs.Promises.{PaysBetween}
-use Rattle.analysis_spec.specs.Runs.{walk_from, standing_after, stands_after, paid_with, payments_of, reaches_party, paid_to}
+use Rattle.analysis_spec.specs.Runs.{walk_from, stands_after, paid_with, payments_of, reaches_party, paid_to}
 use Rattle.losses.specs.declared.loss.Loss.{Loss}
 use Rattle.losses.specs.Losses.{brought, inputs_with, inputs_of, brought_by, LosesAtMost}
 use Rattle.losses.specs.Told.{LoseWithin, OthersLoseNothing}
@@ -65,7 +62,7 @@ natural_append [] qs h k = k
 natural_append (p ∷ ps) qs h k = (h.0, natural_append ps qs h.1 k)
 
 module _ (N : PaymentsAreNatural) (A : AccountsStayPositive) where
-  natural_run : (a : Standing) (ts : List Transaction) → Positive a.state → AreNatural (payments_of a ts)
+  pub natural_run : (a : Standing) (ts : List Transaction) → Positive a.state → AreNatural (payments_of a ts)
   natural_run a [] h = tt
   natural_run a (x ∷ ts) h = by_answer (λ d k. natural_run d ts k) (answer_of (walk_from a x)) refl
     where
@@ -152,7 +149,7 @@ natural_share party token (ToParty q) t n h = by_tests (same_party party q) (sam
     by_tests true false = le_self (pos 0)
     by_tests false d = le_self (pos 0)
 
-natural_paid : (party : Party) (token : Token) (ps : List Payment) → AreNatural ps → pos 0 ≤ℤ paid_to party token ps
+pub natural_paid : (party : Party) (token : Token) (ps : List Payment) → AreNatural ps → pos 0 ≤ℤ paid_to party token ps
 natural_paid party token [] h = le_self (pos 0)
 natural_paid party token (p ∷ ps) h = sum_natural (reaches_party party p.to (counted token p.token p.amount)) (paid_to party token ps) (natural_share party token p.to p.token p.amount h.0) (natural_paid party token ps h.1)
 

@@ -1,5 +1,5 @@
 -- What is known where a deposit is taken off what its party was paid.
-use Rattle.std.specs.Prelude.{◌≡◌, neg_ℤ, ◌-ℤ◌, true, List, Option}
+use Rattle.std.specs.Prelude.{◌≡◌, neg_ℤ, ◌-ℤ◌, Bool, true, List, Option}
 use Rattle.std.specs.Option.{IsSomeAnd}
 use Rattle.contract.specs.Names.declared.account.Account.{Account}
 use Rattle.contract.specs.Names.declared.party.Party.{Party}
@@ -15,11 +15,11 @@ use Rattle.semantics.specs.Applying.{matches, taken}
 use Rattle.linear.specs.Linear.{Linear, Valuation, number_at, IsBelow}
 use Rattle.symbols.specs.Symbols.{Symbols, IsValued, IsClosed, Gives}
 use Rattle.analysis_spec.specs.Runs.{paid_to}
-use Rattle.losses.specs.Losses.{brought}
 use Rattle.analysis_walk.specs.Limits.{any_runs}
 use Rattle.analysis_walk.specs.Covered.{NoneTakes}
 use Rattle.analysis_values.specs.Known.{Known, IsDescribed}
 use Rattle.analysis_steps.specs.Moved.{PaysMore}
+use Rattle.loss_walk.specs.Nets.{taken_off}
 
 -- an expression stands for a difference
 abbrev pub GivesDifference : Symbols → Symbols → Linear → Linear → Linear → Type 0
@@ -33,12 +33,12 @@ PutsHeld k m p q t = (i : Interval) (s : StateMaps) (ps qs : List Payment) → I
 abbrev pub TakesHeld : Known → Known → Party → Party → Token → Type 0
 TakesHeld k m p q t = (i : Interval) (s : StateMaps) (ps qs : List Payment) → IsDescribed any_runs k i s ps → PaysMore ps qs (ToParty p) t (neg_ℤ (balance s q t)) → IsDescribed any_runs m i s qs
 
--- what an input brings is taken off for whoever brings it
-abbrev pub TakesOff : List Payment → List Payment → Input → Type 0
-TakesOff ps qs x = (a : Account) → paid_to a.owner a.token qs ≡ paid_to a.owner a.token ps -ℤ brought a.owner a.token x
+-- what an input brings is taken off for whoever brings it, where that is asked
+abbrev pub TakesOff : Bool → List Payment → List Payment → Input → Type 0
+TakesOff net ps qs x = (a : Account) → paid_to a.owner a.token qs ≡ paid_to a.owner a.token ps -ℤ taken_off net a.owner a.token x
 
 -- where an action takes an input that no earlier one takes, this is known then
-abbrev pub Takes : Known → List ActionTree → ActionTree → Option Known → Type 0
-Takes k earlier a o =
+abbrev pub Takes : Bool → Known → List ActionTree → ActionTree → Option Known → Type 0
+Takes net k earlier a o =
     (i : Interval) (s : StateMaps) (ps : List Payment) (x : Input) → IsDescribed any_runs k i s ps → NoneTakes i s x earlier → matches i s x a ≡ true
-    → IsSomeAnd o (λ m. (qs : List Payment) × IsDescribed any_runs m i (taken s x) qs × TakesOff ps qs x)
+    → IsSomeAnd o (λ m. (qs : List Payment) × IsDescribed any_runs m i (taken s x) qs × TakesOff net ps qs x)

@@ -1,3 +1,4 @@
+pub mod Cuts
 pub mod Nets
 pub mod Brings
 pub mod Floors

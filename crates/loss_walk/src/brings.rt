@@ -1,5 +1,5 @@
 //! What a deposit brings, taken off what its party was paid.
-ghost use Rattle.std.specs.Prelude.{◌≡◌, IfOk, OnOk};
+ghost use Rattle.std.specs.Prelude.{◌≡◌, true, IfOk, OnOk};
 ghost use Rattle.contract.specs.Tree.{value_tree, deposit, action_tree};
 ghost use Rattle.analysis_steps.specs.Amounts.{GivesSum};
 ghost use Rattle.analysis_walk.specs.Knowledge.{actions_before};
@@ -66,7 +66,7 @@ fn bring(
     token: &Token,
     value: &Value,
 ) -> Result<Option<Known>, Memory>
-    ensures { IfOk result (Takes known (actions_before earlier.now) (deposit owner.now payer.now token.now (value_tree value.now))) }
+    ensures { IfOk result (Takes true known (actions_before earlier.now) (deposit owner.now payer.now token.now (value_tree value.now))) }
 {
     let mut known = known;
     put_held(&mut known, payer, owner, token)?;
@@ -80,19 +80,20 @@ fn bring(
     Ok(Some(there))
 }
 
-/// What is known where an action takes an input that no earlier case takes, with what it brings taken off; nothing where that
-/// can't be.
+/// What is known where an action takes an input that no earlier case takes, with what it brings taken off where that is asked;
+/// nothing where that can't be.
 pub(crate) fn take_action(
     alloc: Global,
+    net: bool,
     known: Known,
     earlier: &[Case],
     action: &Action,
 ) -> Result<Option<Known>, Memory>
-    ensures { IfOk result (Takes known (actions_before earlier.now) (action_tree action.now)) }
+    ensures { IfOk result (Takes net known (actions_before earlier.now) (action_tree action.now)) }
 {
     match action {
         Action::Deposit(owner, payer, token, value) => {
-            bring(alloc, known, earlier, owner, payer, token, value)
+            take_deposit(alloc, net, known, earlier, owner, payer, token, value)
         }
         Action::Choice(id, bounds) => {
             let Conclusion { kinds: _, known } = choose(alloc, known, earlier, id, bounds)?;
@@ -102,5 +103,27 @@ pub(crate) fn take_action(
             let Conclusion { kinds: _, known } = notify(alloc, known, earlier, observation)?;
             Ok(known)
         }
+    }
+}
+
+fn take_deposit(
+    alloc: Global,
+    net: bool,
+    known: Known,
+    earlier: &[Case],
+    owner: &Party,
+    payer: &Party,
+    token: &Token,
+    value: &Value,
+) -> Result<Option<Known>, Memory>
+    ensures { IfOk result (Takes net known (actions_before earlier.now) (deposit owner.now payer.now token.now (value_tree value.now))) }
+{
+    if net {
+        bring(alloc, known, earlier, owner, payer, token, value)
+    } else {
+        let Conclusion { kinds: _, known } = deposit(
+            alloc, known, earlier, owner, payer, token, value,
+        )?;
+        Ok(known)
     }
 }

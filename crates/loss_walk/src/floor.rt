@@ -19,6 +19,14 @@ pub(crate) fn least_of(row: Option<Floor>) -> Option<i128>
     }
 }
 
+/// A row that nothing has lowered yet: of a contract that is never closed anything is true.
+pub(crate) fn raised() -> Floor {
+    Floor {
+        least: Some(i128::MAX),
+        brings: false,
+    }
+}
+
 /// Whether the party of a row brings something.
 pub(crate) fn brings(row: Option<Floor>) -> bool {
     match row {

@@ -7,6 +7,8 @@ ghost use Rattle.loss_walk.specs.Floors.{AreFloors, NameAll, Tells, IsTurned};
 
 use crate::floor::{Floor, brings, least_of};
 use crate::laws::nets_bound_losses;
+use crate::question::Question;
+use crate::quiet::Quiet;
 use crate::sole::sole_losses;
 use crate::walk::walk;
 use analysis_spec::PaidRange;
@@ -43,9 +45,21 @@ fn walked_losses(alloc: Global, contract: &Contract, state: &State) -> Result<It
     ensures others { IfOk result (λ all. OthersLoseNothing all state.now (contract_tree contract.now)) }
 {
     nets_bound_losses();
+    let question = Question {
+        keeper: None,
+        net: true,
+        asked: Items::new(alloc),
+    };
     let known = start(alloc, state)?;
     let mut rows = Entries::new(alloc);
-    walk(alloc, known, contract, &mut rows)?;
+    walk(
+        alloc,
+        &question,
+        Quiet::from(state.min_time()),
+        known,
+        contract,
+        &mut rows,
+    )?;
     let all = told(alloc, &rows)?;
     Ok(all)
 }

@@ -1,18 +1,24 @@
 //! Floors of all parties and tokens, as far as a walk has come.
 ghost use Rattle.std.specs.Prelude.{OnOk};
-ghost use Rattle.loss_walk.specs.Floors.{Finds, Nothing, ClosesAbove, LowersAll, Lowers};
+ghost use Rattle.loss_walk.specs.Floors.{Finds, FindsAll, Nothing, ClosesAbove, LowersAll, Lowers};
 
 use crate::floor::{Floor, lowered, noted};
 use analysis_steps::close;
 use analysis_values::Known;
 use contract::{Account, Action, Entries, Memory, TryClone};
 
-/// One more close: what each party was paid there, less what it brought.
-pub(crate) fn put_close(rows: &mut Entries<Account, Floor>, known: &Known) -> Result<(), Memory>
-    ensures { OnOk result (Finds (ClosesAbove known.now) rows.old rows.new) }
+/// One more close: what each party was paid there, less what it brought. Of these accounts it is asked, also if nothing is known
+/// of them.
+pub(crate) fn put_close(
+    rows: &mut Entries<Account, Floor>,
+    known: &Known,
+    asked: &[Account],
+) -> Result<(), Memory>
+    ensures { OnOk result (Finds asked.now (ClosesAbove known.now) rows.old rows.new) }
 {
     let names = known.named()?;
     put_all(rows, known, names.as_slice())?;
+    put_all(rows, known, asked)?;
     Ok(())
 }
 
@@ -22,7 +28,7 @@ fn put_all(
     known: &Known,
     names: &[Account],
 ) -> Result<(), Memory>
-    ensures { OnOk result (Finds (LowersAll known.now names.now) rows.old rows.new) }
+    ensures { OnOk result (FindsAll (LowersAll known.now names.now) rows.old rows.new) }
 {
     for account in names {
         put_one(rows, known, account)?;
@@ -35,7 +41,7 @@ fn put_one(
     known: &Known,
     account: &Account,
 ) -> Result<(), Memory>
-    ensures { OnOk result (Finds (Lowers known.now account.now) rows.old rows.new) }
+    ensures { OnOk result (FindsAll (Lowers known.now account.now) rows.old rows.new) }
 {
     let span = close(known, account)?;
     let row = rows.get(account);
@@ -49,7 +55,7 @@ pub(crate) fn note(
     action: &Action,
     comes: bool,
 ) -> Result<(), Memory>
-    ensures { OnOk result (Finds Nothing rows.old rows.new) }
+    ensures { OnOk result (FindsAll Nothing rows.old rows.new) }
 {
     if !comes {
         return Ok(());
@@ -67,7 +73,7 @@ pub(crate) fn note(
 }
 
 fn note_one(rows: &mut Entries<Account, Floor>, account: &Account) -> Result<(), Memory>
-    ensures { OnOk result (Finds Nothing rows.old rows.new) }
+    ensures { OnOk result (FindsAll Nothing rows.old rows.new) }
 {
     let row = rows.get(account);
     rows.set(account, noted(row))?;

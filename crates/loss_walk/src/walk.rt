@@ -5,7 +5,10 @@ ghost use Rattle.loss_walk.specs.Floors.{Finds, IsCovered, CoversNext, CoversBot
 
 use crate::brings::take_action;
 use crate::floor::Floor;
+use crate::question::Question;
+use crate::quiet::Quiet;
 use crate::rows::{note, put_close};
+use crate::timeless::{holds_timeless, is_timeless};
 use analysis_steps::{assert, bind, branch, later, pay, time_out, wait};
 use analysis_values::Known;
 use analysis_walk::{Branches, Conclusion};
@@ -19,47 +22,71 @@ fn is_closed(contract: &Contract) -> bool
     matches!(contract, Contract::Close)
 }
 
-/// Finds floors for what parties are paid, less what they bring, wherever a contract is closed, from what is known.
+/// Finds floors for what parties are paid, less what they bring where that is asked, wherever a contract is closed, from what is
+/// known. A When that would let a party down that keeps up isn't left by its timeout.
 #[cycle(walk)]
 pub(crate) fn walk(
     alloc: Global,
+    question: &Question,
+    quiet: Quiet,
     known: Known,
     contract: &Contract,
     rows: &mut Entries<Account, Floor>,
 ) -> Result<(), Memory>
-    ensures { OnOk result (Finds (IsCovered known (contract_tree contract.now)) rows.old rows.new) }
+    ensures { OnOk result (Finds question.now.asked (IsCovered question.now quiet known (contract_tree contract.now)) rows.old rows.new) }
 {
     match contract {
         Contract::Close => {
-            put_close(rows, &known)?;
+            put_close(rows, &known, question.asked.as_slice())?;
             Ok(())
         }
         Contract::Pay(from, to, token, amount, then) => {
+            let next = quiet.reading(is_timeless(amount));
             let Conclusion { kinds: _, known } = pay(alloc, known, from, to, token, amount)?;
-            go_on(alloc, known, then.get(), rows)?;
+            go_on(alloc, question, next, known, then.get(), rows)?;
             Ok(())
         }
         Contract::If(observation, then, otherwise) => {
+            let next = quiet.reading(holds_timeless(observation));
             let Branches {
                 kinds: _,
                 if_true,
                 if_false,
             } = branch(alloc, &known, observation)?;
-            walk_both(alloc, if_true, then.get(), if_false, otherwise.get(), rows)?;
+            walk_both(
+                alloc,
+                question,
+                next,
+                if_true,
+                then.get(),
+                if_false,
+                otherwise.get(),
+                rows,
+            )?;
             Ok(())
         }
         Contract::When(cases, timeout, then) => {
-            walk_when(alloc, known, cases.as_slice(), *timeout, then.get(), rows)?;
+            walk_when(
+                alloc,
+                question,
+                quiet,
+                known,
+                cases.as_slice(),
+                *timeout,
+                then.get(),
+                rows,
+            )?;
             Ok(())
         }
         Contract::Let(name, value, then) => {
+            let next = quiet.reading(is_timeless(value));
             let Conclusion { kinds: _, known } = bind(alloc, known, name, value)?;
-            go_on(alloc, known, then.get(), rows)?;
+            go_on(alloc, question, next, known, then.get(), rows)?;
             Ok(())
         }
         Contract::Assert(observation, then) => {
             let Conclusion { kinds: _, known } = assert(alloc, known, observation)?;
-            go_on(alloc, known, then.get(), rows)?;
+            go_on(alloc, question, quiet, known, then.get(), rows)?;
             Ok(())
         }
     }
@@ -69,16 +96,18 @@ pub(crate) fn walk(
 #[cycle(walk)]
 fn go_on(
     alloc: Global,
+    question: &Question,
+    quiet: Quiet,
     known: Option<Known>,
     contract: &Contract,
     rows: &mut Entries<Account, Floor>,
 ) -> Result<(), Memory>
-    ensures { OnOk result (Finds (CoversNext known contract.now) rows.old rows.new) }
+    ensures { OnOk result (Finds question.now.asked (CoversNext question.now quiet known contract.now) rows.old rows.new) }
 {
     let Some(there) = known else {
         return Ok(());
     };
-    walk(alloc, there, contract, rows)?;
+    walk(alloc, question, quiet, there, contract, rows)?;
     Ok(())
 }
 
@@ -86,43 +115,51 @@ fn go_on(
 #[cycle(walk)]
 fn walk_both(
     alloc: Global,
+    question: &Question,
+    quiet: Quiet,
     if_true: Option<Known>,
     then: &Contract,
     if_false: Option<Known>,
     otherwise: &Contract,
     rows: &mut Entries<Account, Floor>,
 ) -> Result<(), Memory>
-    ensures { OnOk result (Finds (CoversBoth if_true then.now if_false otherwise.now) rows.old rows.new) }
+    ensures { OnOk result (Finds question.now.asked (CoversBoth question.now quiet if_true then.now if_false otherwise.now) rows.old rows.new) }
 {
-    go_on(alloc, if_true, then, rows)?;
-    go_on(alloc, if_false, otherwise, rows)?;
+    go_on(alloc, question, quiet, if_true, then, rows)?;
+    go_on(alloc, question, quiet, if_false, otherwise, rows)?;
     Ok(())
 }
 
-// Walks the cases of a When and what it goes on with from its timeout on. Where that is Close, it is closed with all that
-// is known before, so that nothing is copied.
+// Walks the cases of a When and, unless that is cut, what it goes on with from its timeout on. Where that is Close, it is closed
+// with all that is known before, so that nothing is copied.
 #[cycle(walk)]
 fn walk_when(
     alloc: Global,
+    question: &Question,
+    quiet: Quiet,
     known: Known,
     cases: &[Case],
     timeout: i64,
     then: &Contract,
     rows: &mut Entries<Account, Floor>,
 ) -> Result<(), Memory>
-    ensures { OnOk result (Finds (CoversWhen known cases.now timeout then.now) rows.old rows.new) }
+    ensures { OnOk result (Finds question.now.asked (CoversWhen question.now quiet known cases.now timeout then.now) rows.old rows.new) }
 {
     let known = later(known)?;
-    if is_closed(then) {
-        put_close(rows, &known)?;
+    if quiet.cuts(question, cases, timeout) {
         let waiting = wait(alloc, known, timeout)?;
-        walk_cases(alloc, waiting, cases, rows)?;
+        walk_cases(alloc, question, Quiet::from(timeout), waiting, cases, rows)?;
+        Ok(())
+    } else if is_closed(then) {
+        put_close(rows, &known, question.asked.as_slice())?;
+        let waiting = wait(alloc, known, timeout)?;
+        walk_cases(alloc, question, Quiet::from(timeout), waiting, cases, rows)?;
         Ok(())
     } else {
         let over = time_out(alloc, known.try_clone()?, timeout)?;
-        go_on(alloc, over, then, rows)?;
+        go_on(alloc, question, quiet.timed_out(timeout), over, then, rows)?;
         let waiting = wait(alloc, known, timeout)?;
-        walk_cases(alloc, waiting, cases, rows)?;
+        walk_cases(alloc, question, Quiet::from(timeout), waiting, cases, rows)?;
         Ok(())
     }
 }
@@ -131,11 +168,13 @@ fn walk_when(
 #[cycle(walk)]
 fn walk_cases(
     alloc: Global,
+    question: &Question,
+    quiet: Quiet,
     known: Option<Known>,
     cases: &[Case],
     rows: &mut Entries<Account, Floor>,
 ) -> Result<(), Memory>
-    ensures { OnOk result (Finds (CoversEachIf known cases.now) rows.old rows.new) }
+    ensures { OnOk result (Finds question.now.asked (CoversEachIf question.now quiet known cases.now) rows.old rows.new) }
 {
     let Some(each) = known else {
         return Ok(());
@@ -146,9 +185,17 @@ fn walk_cases(
     }
     let last = count - 1;
     for index in 0..last {
-        walk_copied(alloc, &each, cases, index, rows)?;
+        walk_copied(alloc, question, quiet, &each, cases, index, rows)?;
     }
-    walk_case(alloc, each, &cases[..last], &cases[last], rows)?;
+    walk_case(
+        alloc,
+        question,
+        quiet,
+        each,
+        &cases[..last],
+        &cases[last],
+        rows,
+    )?;
     Ok(())
 }
 
@@ -156,16 +203,26 @@ fn walk_cases(
 #[cycle(walk)]
 fn walk_copied(
     alloc: Global,
+    question: &Question,
+    quiet: Quiet,
     known: &Known,
     cases: &[Case],
     index: usize,
     rows: &mut Entries<Account, Floor>,
 ) -> Result<(), Memory>
     requires { index < length cases.now }
-    ensures { OnOk result (Finds (CoversIndex known.now cases.now index) rows.old rows.new) }
+    ensures { OnOk result (Finds question.now.asked (CoversIndex question.now quiet known.now cases.now index) rows.old rows.new) }
 {
     let copy = known.try_clone()?;
-    walk_case(alloc, copy, &cases[..index], &cases[index], rows)?;
+    walk_case(
+        alloc,
+        question,
+        quiet,
+        copy,
+        &cases[..index],
+        &cases[index],
+        rows,
+    )?;
     Ok(())
 }
 
@@ -173,15 +230,17 @@ fn walk_copied(
 #[cycle(walk)]
 fn walk_case(
     alloc: Global,
+    question: &Question,
+    quiet: Quiet,
     known: Known,
     earlier: &[Case],
     case: &Case,
     rows: &mut Entries<Account, Floor>,
 ) -> Result<(), Memory>
-    ensures { OnOk result (Finds (CoversBehind known earlier.now case.now) rows.old rows.new) }
+    ensures { OnOk result (Finds question.now.asked (CoversBehind question.now quiet known earlier.now case.now) rows.old rows.new) }
 {
-    let there = take_action(alloc, known, earlier, &case.action)?;
+    let there = take_action(alloc, question.net, known, earlier, &case.action)?;
     note(rows, &case.action, there.is_some())?;
-    go_on(alloc, there, &case.then, rows)?;
+    go_on(alloc, question, quiet, there, &case.then, rows)?;
     Ok(())
 }

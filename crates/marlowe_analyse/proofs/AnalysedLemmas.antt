@@ -1,9 +1,10 @@
 -- What is printed of a contract and a state.
-use Rattle.std.proofs.Common.{◌≡◌, ◌≢◌, ℕ, ℤ, suc, arith, Option, Some, None, option_map, IfSome, Bool, true, false, not, List, [], ◌∷◌, length, map, refl, sym, ap, ◌∙◌, subst}
+use Rattle.std.proofs.Common.{◌≡◌, ◌≢◌, ℕ, ℤ, suc, arith, Option, Some, None, option_map, IfSome, Result, Ok, Err, IfOk, Bool, true, false, not, List, [], ◌∷◌, length, map, refl, sym, ap, ◌∙◌, subst}
 use Rattle.std.specs.Prelude.{All, Contains, ◌||◌, ◌↔◌, ◌==◌, IsTrue}
 use Rattle.std.specs.List.{AllByRecursion}
 use Rattle.std.proofs.lemmas.List.Elements.{All-from_recursion, recursion_from_All, All-contains, All-contains_itself, All-weaker}
 use Rattle.std.proofs.lemmas.Bool.Decides.{Decides-eqb}
+use Rattle.contract.specs.Names.declared.party.Party.{Party}
 use Rattle.contract.specs.Tree.{ContractTree}
 use Rattle.contract.specs.States.States.{StateMaps}
 use Rattle.analysis_spec.specs.declared.kind.AlarmKind.{AlarmKind}
@@ -11,6 +12,7 @@ use Rattle.analysis_spec.specs.declared.kind.AlarmKind.TheVariants.{Leaves128}
 use Rattle.analysis_spec.specs.declared.alarm.Alarm.{Alarm}
 use Rattle.analysis_spec.specs.Analysed.{IsSilent, NamesWhatComes, NamesWhereItComes, StaysUnlessTold, NamesWhereItLeaves, AreNeverReached}
 use Rattle.analysis_spec.specs.declared.path.PathStep.{PathStep}
+use Rattle.analysis_spec.specs.Promises.{StaysWithin128}
 use Rattle.losses.specs.declared.loss.Loss.{Loss}
 use Rattle.bound_runs.specs.declared.shown.ShownRange.{ShownRange}
 use Rattle.bound_runs.specs.declared.shown.ShownLoss.{ShownLoss}
@@ -24,6 +26,11 @@ use Rattle.marlowe_analyse.specs.Told.{Alarms, seen_alarm, without_runs, LeastsC
 use Rattle.analysis_lines.specs.ToldLines.{Line, line_at, line_of, with_heads, LineFits}
 use Rattle.marlowe_analyse.specs.OnceSupport.{seen_told}
 use Rattle.marlowe_analyse.specs.Printed.{printed, AreHeadsIf, TellsOfTree}
+use Rattle.marlowe_analyse.specs.Keeping.{IsSureFor, TellsFor}
+use Rattle.marlowe_analyse.specs.declared.analysed.Analysed.{Analysed}
+use Rattle.keeping_up.specs.declared.kept.Kept.{Kept}
+use Rattle.analysis_lines.specs.Kept.{with_kept}
+use Rattle.std.specs.declared.alloc.AllocError.{AllocError}
 use Rattle.marlowe_analyse.specs.OnceSupport.{ToldOnce, HaveHeads}
 use Rattle.marlowe_analyse.specs.RunsSupport.{HoldRanges, TellsAll, TellPlaces}
 use Rattle.marlowe_analyse.proofs.UnreachedLemmas.{never_among}
@@ -124,7 +131,46 @@ tells_of_tree telling given s c alarms places ranges time losses told once ways 
       (λ h. none_mapped path_keys w.all (sym w.keys ∙ l.0 h), λ h. l.1 (w.keys ∙ ap (map path_keys) h)),
     )
 
-pub never_alarms : (telling : Telling) (given : Bool) (s : StateMaps) (c : ContractTree) (clear unreached : Bool) (out : List ℕ) → TellsOfTree telling given s c clear unreached out → clear ≡ true → NeverAlarms s c
-never_alarms telling given s c clear unreached out h e =
+no_alarms : (telling : Telling) (given : Bool) (s : StateMaps) (c : ContractTree) (clear unreached : Bool) (out : List ℕ) → TellsOfTree telling given s c clear unreached out → clear ≡ true → NeverAlarms s c
+no_alarms telling given s c clear unreached out h e =
     let none : (kind : AlarmKind) → IsSilent (without_runs h.0) kind = λ kind. subst (λ (found : Alarms). IsSilent (without_runs found) kind) (sym (h.11.0 e)) tt in
     (λ kind. h.6.warnings kind (none kind), h.6.numbers (none Leaves128))
+
+pub never_alarms : (telling : Telling) (party : Option Party) (given : Bool) (s : StateMaps) (c : ContractTree) (clear unreached : Bool) (out : List ℕ) → TellsFor telling party given s c clear unreached out → clear ≡ true → NeverAlarms s c
+never_alarms telling None given s c clear unreached out h e = no_alarms telling given s c clear unreached out h e
+never_alarms telling (Some party) given s c clear unreached out h e = no_alarms telling given s c clear unreached h.text h.tells e
+
+-- where nothing is told no number leaves 128 bits
+pub none_leave : (s : StateMaps) (c : ContractTree) (alarms : List Alarm) (told : List ToldAlarm) (clear leaves : Bool) → TellsAll s c alarms told → (clear ≡ true ↔ told ≡ []) → (leaves ≡ true → IsSilent alarms Leaves128 → ⊥) → clear ≡ true → not leaves ≡ true
+none_leave s c alarms told clear false t k some e = refl
+none_leave s c alarms told clear true t k some e =
+    let none : without_runs t.all ≡ [] = ap without_runs (same_empty line_of (line_at c) told t.all t.so.lines (k.0 e)) in
+    let silent : IsSilent (without_runs t.all) Leaves128 = subst (λ (found : List Alarm). IsSilent found Leaves128) (sym none) tt in
+    absurd (some refl (fewer (λ (a : Alarm). a.kind ≢ Leaves128) (without_runs t.all) alarms t.has silent))
+
+pub stays_within : (s : StateMaps) (c : ContractTree) (alarms : List Alarm) (leaves : Bool) → StaysUnlessTold alarms s c → (leaves ≡ false → IsSilent alarms Leaves128) → not leaves ≡ true → StaysWithin128 s c
+stays_within s c alarms false stays none e = stays (none refl)
+stays_within s c alarms true stays none e = absurd (cc)
+
+-- what is printed for a party
+pub tells_of_party : (telling : Telling) (given : Bool) (asked : Option Party) (party : Party) (s : StateMaps) (c : ContractTree) (told : Analysed) (kept : Option (List Kept)) (r : Result Analysed AllocError)
+    → asked ≡ Some party → TellsOfTree telling given s c told.is_clear told.has_unreached told.text.items → (told.stays ≡ true → StaysWithin128 s c) → (told.is_clear ≡ true → told.stays ≡ true) → IsSureFor asked s c told.stays kept
+    → IfOk r (λ w. (w.text.items ≡ with_kept telling.tools given party kept told.text.items) × (w.is_clear ≡ told.is_clear) × (w.has_unreached ≡ told.has_unreached))
+    → IfOk r (λ w. TellsFor telling asked given s c w.is_clear w.has_unreached w.text.items)
+tells_of_party telling given asked party s c told kept (Err e) is tells within silent sure h = tt
+tells_of_party telling given asked party s c told kept (Ok w) is tells within silent sure (text, clear, unreached) =
+    let so : TellsFor telling (Some party) given s c w.is_clear w.has_unreached w.text.items = record {
+      text = told.text.items;
+      tells = subst (λ (b : Bool). TellsOfTree telling given s c b w.has_unreached told.text.items) (sym clear) (subst (λ (b : Bool). TellsOfTree telling given s c told.is_clear b told.text.items) (sym unreached) tells);
+      stays = told.stays;
+      within = within;
+      silent = λ e. silent (sym clear ∙ e);
+      kept = kept;
+      sure = subst (λ (p : Option Party). IsSureFor p s c told.stays kept) is sure;
+      is = text;
+    } in
+    subst (λ (p : Option Party). TellsFor telling p given s c w.is_clear w.has_unreached w.text.items) (sym is) so
+
+pub tells_of_none : (telling : Telling) (given : Bool) (asked : Option Party) (s : StateMaps) (c : ContractTree) (told : Analysed) → asked ≡ None → TellsOfTree telling given s c told.is_clear told.has_unreached told.text.items
+    → TellsFor telling asked given s c told.is_clear told.has_unreached told.text.items
+tells_of_none telling given asked s c told is tells = subst (λ (p : Option Party). TellsFor telling p given s c told.is_clear told.has_unreached told.text.items) (sym is) tells

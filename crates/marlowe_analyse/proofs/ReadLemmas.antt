@@ -3,6 +3,7 @@ use Rattle.std.proofs.Common.{◌≡◌, ◌≢◌, ℕ, Bool, true, List, refl,
 use Rattle.std.specs.Prelude.{IfOk, is_some, option_map}
 use Rattle.contract.specs.Collections.Answers.{◌>>=◌, AsideBy}
 use Rattle.contract.specs.declared.tree.Contract.{Contract}
+use Rattle.contract.specs.Names.declared.party.Party.{Party}
 use Rattle.contract.specs.Tree.{ContractTree, contract_tree}
 use Rattle.contract.specs.States.States.{StateMaps}
 use Rattle.marlowe_run.specs.JsonReadNames.declared.fault.JsonFault.{JsonFault}
@@ -16,7 +17,8 @@ use Rattle.marlowe_analyse.specs.declared.analysed.Analysed.{Analysed}
 use Rattle.marlowe_analyse.specs.declared.analysed.Telling.{Telling}
 use Rattle.marlowe_run.specs.declared.readable.Readable.{Readable}
 use Rattle.marlowe_run.specs.Start.{start_of}
-use Rattle.marlowe_analyse.specs.Printed.{is_read, IsClear, TellsOfTree, TellsSo}
+use Rattle.marlowe_analyse.specs.Printed.{is_read, IsClear}
+use Rattle.marlowe_analyse.specs.Keeping.{TellsFor, TellsSo}
 use Rattle.marlowe_analyse.specs.RunsSupport.{TellsFrom, is_started}
 use Rattle.marlowe_analyse.proofs.AnalysedLemmas.{never_alarms}
 
@@ -35,18 +37,18 @@ the_parts (Ok g) (Ok z) given s c e h =
     let p : ◌≡◌ {A = StateMaps × ContractTree} (z, contract_tree g) (s, c) = cc in
     (ap (λ (q : StateMaps × ContractTree). let y : Result StateMaps JsonFault = Ok q.0 in y) p, ap contract_tree (sym same) ∙ ap (λ (q : StateMaps × ContractTree). q.1) p)
 
-module _ (telling : Telling) (readable : Readable) (text : List ℕ) (start : Option (List ℕ)) (given : Contract) (is : of_text_within readable.depth contract text ≡ Ok given) where
-  tells : (clear unreached : Bool) (out : List ℕ) → TellsFrom telling (is_some start) (contract_tree given) (start_of readable.text_numbers start) clear unreached out → TellsSo telling readable text start clear unreached out
+module _ (telling : Telling) (party : Option Party) (readable : Readable) (text : List ℕ) (start : Option (List ℕ)) (given : Contract) (is : of_text_within readable.depth contract text ≡ Ok given) where
+  tells : (clear unreached : Bool) (out : List ℕ) → TellsFrom telling party (is_some start) (contract_tree given) (start_of readable.text_numbers start) clear unreached out → TellsSo telling party readable text start clear unreached out
   tells clear unreached out h s c e =
       let p = the_parts (of_text_within readable.depth contract text) (start_of readable.text_numbers start) given s c is e in
-      subst (λ (t : ContractTree). TellsOfTree telling (is_some start) s t clear unreached out) p.1 (h s p.0)
+      subst (λ (t : ContractTree). TellsFor telling party (is_some start) s t clear unreached out) p.1 (h s p.0)
 
-  pub all_told_so : (r : Result Analysed RunFault) → IfOk r (λ t. TellsFrom telling (is_some start) (contract_tree given) (start_of readable.text_numbers start) t.is_clear t.has_unreached t.text.items) → IfOk r (λ t. TellsSo telling readable text start t.is_clear t.has_unreached t.text.items)
+  pub all_told_so : (r : Result Analysed RunFault) → IfOk r (λ t. TellsFrom telling party (is_some start) (contract_tree given) (start_of readable.text_numbers start) t.is_clear t.has_unreached t.text.items) → IfOk r (λ t. TellsSo telling party readable text start t.is_clear t.has_unreached t.text.items)
   all_told_so (Ok t) h = tells t.is_clear t.has_unreached t.text.items h
   all_told_so (Err f) h = tt
 
-  pub is_clear_so : (r : Result Analysed RunFault) → IfOk r (λ t. TellsFrom telling (is_some start) (contract_tree given) (start_of readable.text_numbers start) t.is_clear t.has_unreached t.text.items) → IfOk r (λ t. t.is_clear ≡ true → IsClear readable text start)
-  is_clear_so (Ok t) h = λ e s c q. never_alarms telling (is_some start) s c t.is_clear t.has_unreached t.text.items (tells t.is_clear t.has_unreached t.text.items h s c q) e
+  pub is_clear_so : (r : Result Analysed RunFault) → IfOk r (λ t. TellsFrom telling party (is_some start) (contract_tree given) (start_of readable.text_numbers start) t.is_clear t.has_unreached t.text.items) → IfOk r (λ t. t.is_clear ≡ true → IsClear readable text start)
+  is_clear_so (Ok t) h = λ e s c q. never_alarms telling party (is_some start) s c t.is_clear t.has_unreached t.text.items (tells t.is_clear t.has_unreached t.text.items h s c q) e
   is_clear_so (Err f) h = tt
 
 -- why nothing is read
@@ -65,8 +67,8 @@ pub not_read : (readable : Readable) (text : List ℕ) (start : Option (List ℕ
 not_read readable text start f g h e n = fault_of (of_text_within readable.depth contract text) (start_of readable.text_numbers start) f g h e n
 
 -- where the state is read
-pub tells_from : (telling : Telling) (given : Bool) (c : ContractTree) (start : Result StateMaps JsonFault) (s : StateMaps) (clear unreached : Bool) (out : List ℕ) → start ≡ Ok s → TellsOfTree telling given s c clear unreached out → TellsFrom telling given c start clear unreached out
-tells_from telling given c start s clear unreached out e h z f = let same : s ≡ z = cc in subst (λ (x : StateMaps). TellsOfTree telling given x c clear unreached out) same h
+pub tells_from : (telling : Telling) (party : Option Party) (given : Bool) (c : ContractTree) (start : Result StateMaps JsonFault) (s : StateMaps) (clear unreached : Bool) (out : List ℕ) → start ≡ Ok s → TellsFor telling party given s c clear unreached out → TellsFrom telling party given c start clear unreached out
+tells_from telling party given c start s clear unreached out e h z f = let same : s ≡ z = cc in subst (λ (x : StateMaps). TellsFor telling party given x c clear unreached out) same h
 
 pub started : (start : Result StateMaps JsonFault) (s : StateMaps) → start ≡ Ok s → is_started start ≡ Ok tt
 started (Ok z) s e = refl

@@ -1,5 +1,5 @@
 -- What is printed of a contract's text and a state's.
-use Rattle.std.specs.Prelude.{◌≡◌, ◌↔◌, ℕ, ℤ, Bool, true, false, not, ◌||◌, if◌then◌else◌, List, [], map, Option, option_map, IfSome, is_some, Result, Ok}
+use Rattle.std.specs.Prelude.{◌≡◌, ◌↔◌, ℕ, ℤ, Bool, true, false, not, ◌||◌, if◌then◌else◌, List, [], map, Option, option_map, IfSome, Result, Ok}
 use Rattle.contract.specs.Collections.Answers.{◌>>=◌}
 use Rattle.contract.specs.Tree.{ContractTree, contract_tree}
 use Rattle.contract.specs.States.States.{StateMaps}
@@ -58,10 +58,6 @@ TellsOfTree telling given s c clear unreached out =
     × IsSo s c alarms places (ranges_of ranges) time (option_map losses_of losses) × AreReached s c ranges × IfSome losses (AreLost s c) × AreHeadsFor telling c alarms found
     × (out ≡ printed telling given s c (with_heads (map (line_at c) alarms) found) (map path_keys places) ranges time losses)
     × (clear ≡ true ↔ alarms ≡ []) × (unreached ≡ false ↔ places ≡ [])
-
--- .. of those that the texts are read as
-abbrev pub TellsSo : Telling → Readable → List ℕ → Option (List ℕ) → Bool → Bool → List ℕ → Type 0
-TellsSo telling readable text start clear unreached out = (s : StateMaps) (c : ContractTree) → IsReadAs readable text start s c → TellsOfTree telling (is_some start) s c clear unreached out
 
 -- it never warns, and stays within 128 bits
 abbrev pub IsClear : Readable → List ℕ → Option (List ℕ) → Type 0

@@ -2,6 +2,7 @@
 use Rattle.std.specs.Prelude.{◌≡◌, ◌+◌, ◌<◌, ℕ, nat_eq, Bool, if◌then◌else◌, List, [], ◌∷◌, map, All, Contains, get_or, Option, None, is_some, Result, Ok}
 use Rattle.std.specs.List.{AllByRecursion, starts_with}
 use Rattle.contract.specs.Collections.Answers.{◌>>=◌}
+use Rattle.contract.specs.Names.declared.party.Party.{Party}
 use Rattle.contract.specs.Tree.{ContractTree}
 use Rattle.contract.specs.States.States.{StateMaps}
 use Rattle.analysis_spec.specs.declared.alarm.Alarm.{Alarm}
@@ -24,7 +25,7 @@ use Rattle.marlowe_analyse.specs.OrderSupport.{IsUpTo}
 use Rattle.marlowe_analyse.specs.Told.{Alarms, seen_alarm, without_runs, EndSo}
 use Rattle.analysis_lines.specs.ToldLines.{line_at, line_of, LineFits}
 use Rattle.marlowe_analyse.specs.OnceSupport.{seen_told}
-use Rattle.marlowe_analyse.specs.Printed.{TellsOfTree}
+use Rattle.marlowe_analyse.specs.Keeping.{TellsFor}
 
 -- what is told of alarms, each of them: with runs that end in them, which JSON has
 pub record AreTold (s : StateMaps) (c : ContractTree) (told : List ToldAlarm) (all : Alarms) : Type 0 where
@@ -89,12 +90,12 @@ pub record HoldRanges (s : StateMaps) (c : ContractTree) (ranges : List PaidRang
 
 -- ---- a contract, and the state from which it starts
 
-abbrev pub TellsFrom : Telling → Bool → ContractTree → Result StateMaps JsonFault → Bool → Bool → List ℕ → Type 0
-TellsFrom telling given c start clear unreached out = (s : StateMaps) → start ≡ Ok s → TellsOfTree telling given s c clear unreached out
+abbrev pub TellsFrom : Telling → Option Party → Bool → ContractTree → Result StateMaps JsonFault → Bool → Bool → List ℕ → Type 0
+TellsFrom telling party given c start clear unreached out = (s : StateMaps) → start ≡ Ok s → TellsFor telling party given s c clear unreached out
 
 -- .. that starts in the state of a text, if there is one
-abbrev pub AnalysedFrom : Telling → Bool → ContractTree → Option (List ℕ) → Analysed → Type 0
-AnalysedFrom telling texts c start told = TellsFrom telling (is_some start) c (start_of texts start) told.is_clear told.has_unreached told.text.items
+abbrev pub AnalysedFrom : Telling → Option Party → Bool → ContractTree → Option (List ℕ) → Analysed → Type 0
+AnalysedFrom telling party texts c start told = TellsFrom telling party (is_some start) c (start_of texts start) told.is_clear told.has_unreached told.text.items
 
 -- or why there is no state
 abbrev pub is_started : Result StateMaps JsonFault → Result (Unit {0}) RunFault

@@ -9,4 +9,4 @@ mod runs;
 mod taken;
 mod unreached;
 
-pub use analysed::{Analysed, Telling, analyse_text, analysis_text};
+pub use analysed::{Analysed, Telling, analyse_text, analysis_for};

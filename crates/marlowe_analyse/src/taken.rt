@@ -49,8 +49,8 @@ pub(crate) fn told_losses(
     Ok(Some(losses))
 }
 
-// Whether there is an alarm that a number leaves 128 bits.
-fn leaves(alarms: &[Alarm]) -> bool
+/// Whether there is an alarm that a number leaves 128 bits.
+pub(crate) fn leaves(alarms: &[Alarm]) -> bool
     ensures none { result ≡ false → IsSilent alarms.now Leaves128 }
     ensures some { result ≡ true → IsSilent alarms.now Leaves128 → ⊥ }
 {

@@ -107,6 +107,7 @@ AsksAnalysis words task = (first_of (codes "CONTRACT") words ≡ Some task.contr
     × IsFlag (one_of (codes "no-runs") words) task.no_runs
     × IsFlag (one_of (codes "all") words) task.all
     × IsFlag (one_of (codes "notes") words) task.notes
+    × (first_of (codes "party") words ≡ option_map (λ text. text.now) task.party)
     × IsFlag (one_of (codes "strict") words) task.strict
     × IsDepth (one_of (codes "depth") words) task.depth
     × IsFlag (one_of (codes "text-numbers") words) task.text_numbers

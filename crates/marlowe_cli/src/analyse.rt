@@ -21,6 +21,8 @@ pub struct AnalyseTask<'a> {
     pub all: bool,
     /// Notes on the contract are told too.
     pub notes: bool,
+    /// The party, as JSON, of which is told what it is sure of while it keeps up, if one is given.
+    pub party: Option<&'a str>,
     /// Status 3 also where a part is told that no run reaches.
     pub strict: bool,
     /// How deep lists and objects of a contract may nest: from 127 to 4,000 levels.
@@ -48,6 +50,7 @@ pub(crate) fn analyse_task<'a>(analyse: &ArgMatches<'a>) -> Result<Task<'a>, NoT
         no_runs: is_given(analyse, "no-runs"),
         all: is_given(analyse, "all"),
         notes: is_given(analyse, "notes"),
+        party: word_if(analyse, "party"),
         strict: is_given(analyse, "strict"),
         depth: depth(analyse)?,
         text_numbers: is_given(analyse, "text-numbers"),

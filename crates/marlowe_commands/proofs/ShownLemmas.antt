@@ -25,6 +25,8 @@ use Rattle.serve.specs.MarloweTrace.Traced.{Told}
 use Rattle.serve.specs.MarloweNext.declared.asked.Asked.{Asked}
 use Rattle.serve.specs.MarloweNext.Question.{Reached}
 use Rattle.serve.specs.MarloweAnalyse.declared.analysed.Telling.{Telling}
+use Rattle.contract.specs.Names.declared.party.Party.{Party}
+use Rattle.marlowe_play.specs.JsonReadNames.declared.fault.JsonFault.{JsonFault}
 use Rattle.marlowe_play.specs.JsonReadNames.Parts.{Reading}
 use Rattle.marlowe_play.specs.Plans.declared.scenario.Scenario.{Scenario}
 use Rattle.marlowe_play.specs.Played.{Wanted}
@@ -36,7 +38,7 @@ use Rattle.marlowe_commands.specs.declared.face.Face.{Face}
 use Rattle.marlowe_commands.specs.declared.face.Face.TheVariants.{Plain, Explained, Json}
 use Rattle.marlowe_commands.specs.declared.printed.Printed.{Printed}
 use Rattle.marlowe_commands.specs.Streams.{Streams, streams_of, Saying, Refusal, says, refuses, for_people, for_tools, shown, spelling_of, IsShown, IsStatus, IsWell, Shows, IsForPeople, IsForTools, IsExplained, IsFor, IsHelp, AreNotes, unreadable, with_notes}
-use Rattle.marlowe_commands.specs.Tasks.{AsksFor, AsksForAlarms, IsOfLine, IsTrace, MayAlarm, SaysAnalysis, SaysNext, SaysPlay, analysis_status, face_by, face_of, outcomes, stream_of, refusal_by, run_said, table_answer, table_said, trace_said, play_status, play_refusal, well_status}
+use Rattle.marlowe_commands.specs.Tasks.{AsksFor, AsksForAlarms, IsOfLine, IsTrace, MayAlarm, SaysAnalysis, SaysNext, SaysPlay, analysis_status, face_by, face_of, outcomes, stream_of, refusal_by, run_said, table_answer, table_said, trace_said, play_status, play_refusal, well_status, unread_party}
 use Rattle.marlowe_commands.proofs.NoteLemmas.{both}
 use Rattle.marlowe_commands.proofs.TaskLemmas.{asks_alarms, asks_no_stream, asks_trace, wants_face}
 
@@ -141,11 +143,11 @@ alarm_status false true unreached = inl refl
 alarm_status true true false = inl refl
 alarm_status true true true = inr (tt {0}, refl)
 
-analysis_well : (telling : Telling) (strict : Bool) (readable : Readable) (contract : List ℕ) (state : Option (List ℕ)) (said : Saying)
-    → SaysAnalysis telling strict readable contract state said → IsWell (Unit {0}) ⊥ said
-analysis_well telling strict readable contract state said (inl (clear, unreached, text, is, told)) =
+analysis_well : (telling : Telling) (strict : Bool) (readable : Readable) (contract : List ℕ) (state : Option (List ℕ)) (party : Option Party) (said : Saying)
+    → SaysAnalysis telling strict readable contract state party said → IsWell (Unit {0}) ⊥ said
+analysis_well telling strict readable contract state party said (inl (clear, unreached, text, is, told)) =
     subst (IsWell (Unit {0}) ⊥) (sym is) (alarm_status strict clear unreached)
-analysis_well telling strict readable contract state said (inr (f, unread, is)) = subst (IsWell (Unit {0}) ⊥) (sym is) (inl refl, refusal_is (fault.Run f))
+analysis_well telling strict readable contract state party said (inr (f, unread, is)) = subst (IsWell (Unit {0}) ⊥) (sym is) (inl refl, refusal_is (fault.Run f))
 
 play_status_is : (f : PlayFault) → (play_status f ≡ 1) ⊎ (play_status f ≡ 4)
 play_status_is (playing.Scenario f) = inr refl
@@ -211,11 +213,11 @@ pub next_shows : (face : Face) (asked : Asked) (reached : Result Reached TraceFa
     → IsShown face (SaysNext asked reached) Tells streams → Shows face ⊥ ⊥ streams
 next_shows face asked reached Tells streams it = shows face ⊥ ⊥ (SaysNext asked reached) Tells streams (next_well asked reached) it
 
-pub analysis_shows : (face : Face) (telling : Telling) (strict : Bool) (readable : Readable) (contract : List ℕ) (state : Option (List ℕ))
-    (Tells : Spelling → List ℕ → Type 0) (streams : Streams) → IsShown face (SaysAnalysis telling strict readable contract state) Tells streams
+pub analysis_shows : (face : Face) (telling : Telling) (strict : Bool) (readable : Readable) (contract : List ℕ) (state : Option (List ℕ)) (party : Option Party)
+    (Tells : Spelling → List ℕ → Type 0) (streams : Streams) → IsShown face (SaysAnalysis telling strict readable contract state party) Tells streams
     → Shows face (Unit {0}) ⊥ streams
-analysis_shows face telling strict readable contract state Tells streams it =
-    shows face (Unit {0}) ⊥ (SaysAnalysis telling strict readable contract state) Tells streams (analysis_well telling strict readable contract state) it
+analysis_shows face telling strict readable contract state party Tells streams it =
+    shows face (Unit {0}) ⊥ (SaysAnalysis telling strict readable contract state party) Tells streams (analysis_well telling strict readable contract state party) it
 
 pub play_shows : (face : Face) (big : Bool) (reading : Reading Scenario) (wanted : Wanted) (Tells : Spelling → List ℕ → Type 0) (streams : Streams)
     → IsShown face (SaysPlay big reading wanted) Tells streams → Shows face (Unit {0}) ⊥ streams
@@ -247,6 +249,14 @@ unreadable_shows face path said told streams is (inl same) =
     record { said = said; is_well = subst (IsWell ⊥ ⊥) (sym is) (inl refl, inr (refl, refl)); told = told; notes = []; are_notes = ([], refl); are_explained = inl refl; is = same ∙ no_notes (shown face said told) }
 unreadable_shows face path said told streams is (inr same) =
     record { said = said; is_well = subst (IsWell ⊥ ⊥) (sym is) (inl refl, inr (refl, refl)); told = []; notes = []; are_notes = ([], refl); are_explained = inl refl; is = same ∙ no_notes (shown face said []) }
+
+-- so is a party that isn't read
+party_well : (f : JsonFault) (said : Saying) → said ≡ refuses [] (unread_party f) → IsWell (Unit {0}) ⊥ said
+party_well f said is = subst (IsWell (Unit {0}) ⊥) (sym is) (inl refl, inl (refl, inr refl))
+
+pub party_shows : (face : Face) (f : JsonFault) (Tells : Spelling → List ℕ → Type 0) (streams : Streams)
+    → IsShown face (λ said. said ≡ refuses [] (unread_party f)) Tells streams → Shows face (Unit {0}) ⊥ streams
+party_shows face f Tells streams it = shows face (Unit {0}) ⊥ (λ said. said ≡ refuses [] (unread_party f)) Tells streams (party_well f) it
 
 -- a text with status 0 is well formed
 text_shows : (face : Face) (text : List ℕ) (told : List ℕ) (streams : Streams)

@@ -9,7 +9,8 @@ use Rattle.marlowe_cli.specs.declared.task.Task.TheVariants.{Run, Trace, Next, T
 use Rattle.marlowe_cli.specs.Asked.{IsAsked, IsDepth}
 use Rattle.marlowe_run.specs.declared.readable.Readable.{Readable}
 use Rattle.serve.specs.MarloweAnalyse.declared.analysed.Telling.{Telling}
-use Rattle.serve.specs.MarloweAnalyse.Printed.{TellsSo}
+use Rattle.serve.specs.MarloweAnalyse.Keeping.{TellsSo}
+use Rattle.contract.specs.Names.declared.party.Party.{Party}
 use Rattle.marlowe_commands.specs.declared.face.Face.{Face}
 use Rattle.marlowe_commands.specs.Streams.{Saying, says}
 use Rattle.marlowe_commands.specs.Tasks.{AsksFor, AsksForAlarms, AsksForStream, IsTrace, MayAlarm, SaysAnalysis, WantsFaceIn, analysis_status, face_of, stream_of}
@@ -112,7 +113,7 @@ nests (Some (name, rows)) task readable asked some =
 
 -- ---- what is said for an analysis
 
-pub status_said : (telling : Telling) (strict : Bool) (readable : Readable) (contract : List ℕ) (state : Option (List ℕ)) (clear unreached : Bool) (text : List ℕ)
-    (status : ℕ) → status ≡ analysis_status strict clear unreached → TellsSo telling readable contract state clear unreached text
-    → SaysAnalysis telling strict readable contract state (says text status)
-status_said telling strict readable contract state clear unreached text status is told = inl (clear, unreached, text, ap (says text) is, told)
+pub status_said : (telling : Telling) (strict : Bool) (readable : Readable) (contract : List ℕ) (state : Option (List ℕ)) (party : Option Party) (clear unreached : Bool) (text : List ℕ)
+    (status : ℕ) → status ≡ analysis_status strict clear unreached → TellsSo telling party readable contract state clear unreached text
+    → SaysAnalysis telling strict readable contract state party (says text status)
+status_said telling strict readable contract state party clear unreached text status is told = inl (clear, unreached, text, ap (says text) is, told)

@@ -1,5 +1,5 @@
 -- What each command says.
-use Rattle.std.specs.Prelude.{◌≡◌, ◌⊎◌, ◌≤◌, ◌&&◌, ◌||◌, ℕ, Bool, true, false, not, if◌then◌else◌, List, [], Option, Some, None, Result, Ok, Err, codes}
+use Rattle.std.specs.Prelude.{◌≡◌, ◌⊎◌, ◌≤◌, ◌&&◌, ◌||◌, ℕ, Bool, true, false, not, if◌then◌else◌, List, [], ◌++◌, Option, Some, None, Result, Ok, Err, codes}
 use Rattle.clap.specs.Words.{Row, Text, one_of}
 use Rattle.marlowe_play.specs.JsonReadNames.declared.fault.JsonFault.{JsonFault}
 use Rattle.marlowe_play.specs.MarloweRefusals.declared.fault.Fault.{Fault}
@@ -18,8 +18,13 @@ use Rattle.serve.specs.MarloweNext.declared.asked.Asked.{Asked}
 use Rattle.serve.specs.MarloweNext.Answer.{IsAnswer}
 use Rattle.serve.specs.MarloweNext.Question.{Reached, answered}
 use Rattle.serve.specs.MarloweAnalyse.declared.analysed.Telling.{Telling}
-use Rattle.serve.specs.MarloweAnalyse.Printed.{TellsSo, is_read}
+use Rattle.serve.specs.MarloweAnalyse.Keeping.{TellsSo}
+use Rattle.serve.specs.MarloweAnalyse.Printed.{is_read}
 use Rattle.marlowe_play.specs.JsonReadNames.Parts.{Reading}
+use Rattle.marlowe_play.specs.JsonReadNames.ReadsNames.{party}
+use Rattle.marlowe_play.specs.JsonReadNames.ReadsText.{of_text}
+use Rattle.contract.specs.Names.declared.party.Party.{Party}
+use Rattle.contract.specs.Collections.Answers.{◌>>=◌}
 use Rattle.marlowe_play.specs.Plans.declared.scenario.Scenario.{Scenario}
 use Rattle.marlowe_play.specs.Faults.{play_refusal_text}
 use Rattle.marlowe_play.specs.Played.{IsAnswered, Wanted}
@@ -74,11 +79,20 @@ table_said face (Err f) = refuses [] (refusal_by (fault.Table f))
 abbrev pub analysis_status : Bool → Bool → Bool → ℕ
 analysis_status strict clear unreached = if clear && not (strict && unreached) then 0 else 3
 
--- the analysis, with this status; or the refusal of the first text that isn't read
-abbrev pub SaysAnalysis : Telling → Bool → Readable → List ℕ → Option (List ℕ) → Saying → Type 0
-SaysAnalysis telling strict readable contract state said =
-    ((clear unreached : Bool) × (text : List ℕ) × (said ≡ says text (analysis_status strict clear unreached)) × TellsSo telling readable contract state clear unreached text)
+-- the analysis, for a party if one is asked about, with this status; or the refusal of the first text that isn't read
+abbrev pub SaysAnalysis : Telling → Bool → Readable → List ℕ → Option (List ℕ) → Option Party → Saying → Type 0
+SaysAnalysis telling strict readable contract state party said =
+    ((clear unreached : Bool) × (text : List ℕ) × (said ≡ says text (analysis_status strict clear unreached)) × TellsSo telling party readable contract state clear unreached text)
     ⊎ ((f : RunFault) × (is_read readable contract state ≡ Err f) × (said ≡ refuses [] (refusal_by (fault.Run f))))
+
+-- the party that a text stands for, if there is a text
+abbrev pub party_given : Option (List ℕ) → Reading (Option Party)
+party_given None = Ok None
+party_given (Some text) = of_text party text >>= λ p. Ok (Some p)
+
+-- a text that stands for none
+abbrev pub unread_party : JsonFault → Refusal
+unread_party f = ((codes "refused party " ++ json_fault_name f, 1), (named (codes "party") (json_fault_name f), 4))
 
 -- why a scenario isn't played: its text isn't read, or its setup has a fault
 abbrev pub play_members : PlayFault → List ℕ

@@ -12,6 +12,7 @@ mod face;
 mod files;
 mod in_turn;
 mod noted;
+mod party;
 mod printed;
 mod said;
 mod serving;

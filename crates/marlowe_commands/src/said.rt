@@ -2,11 +2,11 @@
 ghost use Rattle.std.specs.Prelude.{◌≡◌, ◌⊎◌, [], ◌∷◌, ◌++◌, IfOk, OnOk};
 ghost use Rattle.serve.specs.RefusalObjects.Objects.{refused_line};
 ghost use Rattle.marlowe_commands.specs.Streams.{for_people, for_tools, refusal_of, refused_shown, refuses, saying_of, shown, streams_of, unreadable};
-ghost use Rattle.marlowe_commands.specs.Tasks.{refusal_by};
+ghost use Rattle.marlowe_commands.specs.Tasks.{refusal_by, unread_party};
 
 use crate::face::Face;
 use crate::printed::Printed;
-use marlowe_play::{Fault, Memory, refusal};
+use marlowe_play::{Fault, JsonFault, Memory, json_fault_name, refusal};
 use serve::{members, named_members, put_next, refused_line, status};
 use std::alloc::Global;
 
@@ -60,6 +60,21 @@ impl Said {
             status: 2,
             members,
             tool_status: 2,
+        };
+        Ok(Said::Refused(Vec::new(alloc), refusal))
+    }
+
+    /// A text that stands for no party.
+    pub fn unread_party(alloc: Global, fault: JsonFault) -> Result<Said, Memory>
+        ensures { IfOk result (λ said. saying_of said ≡ refuses [] (unread_party fault)) }
+    {
+        let name = json_fault_name(fault);
+        let line = format!(in alloc; "refused party {name}")?;
+        let refusal = Refusal {
+            line: line.into_bytes(),
+            status: 1,
+            members: named_members(alloc, "party", name)?,
+            tool_status: UNREAD,
         };
         Ok(Said::Refused(Vec::new(alloc), refusal))
     }

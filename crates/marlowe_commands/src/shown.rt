@@ -19,6 +19,7 @@ use crate::said::Said;
 use crate::tasks::{
     analysis_said, next_said, outcomes, play_said, run_said, table_answer, table_said, trace_said,
 };
+use contract::Party;
 use marlowe_play::{Fault, Memory, Watch};
 use marlowe_run::Readable;
 use refusal_reasons::{Reasoned, reasons, run_reasoned, table_reasoned};
@@ -244,10 +245,11 @@ pub fn analysis_shown(
     readable: Readable,
     telling: Telling,
     strict: bool,
+    party: &Option<Party>,
     face: Face,
 ) -> Result<Printed, Memory>
     ensures { IfOk result (λ printed. IsShown face
-        (SaysAnalysis telling strict readable contract.entry.text.now (option_map (λ source. source.text.now) state.entry))
+        (SaysAnalysis telling strict readable contract.entry.text.now (option_map (λ source. source.text.now) state.entry) party.now)
         (Tells contract.entry state.entry readable behind.Nothing) (streams_of printed)) }
 {
     let said = analysis_said(
@@ -257,6 +259,7 @@ pub fn analysis_shown(
         readable,
         telling,
         strict,
+        party,
     )?;
     let wanted = said.is_explained(face);
     let told = reasons_if(

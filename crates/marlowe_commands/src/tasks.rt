@@ -13,6 +13,7 @@ ghost use Rattle.marlowe_commands.specs.Tasks.{SaysAnalysis, SaysNext, SaysPlay,
 use crate::face::Face;
 use crate::said::{Refusal, Said};
 use big_texts::big_as_text;
+use contract::Party;
 use marlowe_play::{
     Fault, Memory, PlayFault, Played, RunFault, TableFault, TraceFault, Watch, json_fault_name,
     play_asked, play_refusal, setup_members,
@@ -140,16 +141,18 @@ pub fn analysis_said(
     readable: Readable,
     telling: Telling,
     strict: bool,
+    party: &Option<Party>,
 ) -> Result<Said, Memory>
     ensures { IfOk result (λ said.
-        SaysAnalysis telling strict readable contract.now (option_map (λ text. text.now) state.entry) (saying_of said)) }
+        SaysAnalysis telling strict readable contract.now (option_map (λ text. text.now) state.entry) party.now (saying_of said)) }
 {
-    match analyse_text(alloc, contract, state, readable, telling) {
+    match analyse_text(alloc, contract, state, readable, telling, party) {
         Ok(
             Analysed {
                 text,
                 is_clear,
                 has_unreached,
+                ..
             },
         ) => {
             let status = analysis_status(strict, is_clear, has_unreached);

@@ -8,12 +8,14 @@ use crate::files::{Gathered, Joined, gather, scenario_joined};
 use crate::noted::{
     contract_notes, noted, put, scenario_notes, state_notes, transaction_notes, transactions_notes,
 };
+use crate::party::{party_given, unread_party};
 use crate::printed::Printed;
 use crate::shown::{analysis_shown, next_shown, play_shown, run_shown, table_shown, trace_shown};
 use crate::stops::{Stop, text_if, text_of, texts_of, unreadable};
 use crate::texts::Texts;
+use contract::Party;
 use marlowe_cli::{AnalyseTask, NextTask, PlayTask, RunTask, TableTask, TraceTask};
-use marlowe_play::{Memory, Watch};
+use marlowe_play::{JsonFault, Memory, Watch};
 use marlowe_run::Readable;
 use scenario_files::{FileName, files_of};
 use serve::{Source, Sources, Telling};
@@ -271,11 +273,14 @@ fn analysed(
     readable: Readable,
     telling: Telling,
     strict: bool,
+    party: &Option<Party>,
     face: Face,
 ) -> Result<Printed, Memory>
     ensures { IfOk result (λ printed. Shows face (Unit {0}) ⊥ (streams_of printed)) }
 {
-    analysis_shown(alloc, contract, state, readable, telling, strict, face)
+    analysis_shown(
+        alloc, contract, state, readable, telling, strict, party, face,
+    )
 }
 
 pub fn analysis_told<'a, T: Texts>(
@@ -288,6 +293,11 @@ pub fn analysis_told<'a, T: Texts>(
 {
     let contract = text_of(alloc, texts, task.contract)?;
     let state = text_if(alloc, texts, task.state)?;
+    let party = match party_given(alloc, task.party) {
+        Ok(party) => party,
+        Err(JsonFault::Memory) => return Err(Stop::Memory),
+        Err(fault) => return Ok(unread_party(alloc, task.party, fault, face)?),
+    };
     let telling = telling_of(&task);
     let readable = Readable {
         depth: task.depth,
@@ -295,7 +305,10 @@ pub fn analysis_told<'a, T: Texts>(
     };
     let contract = source(task.contract, &contract);
     let state = source_if(task.state, &state);
-    let printed = analysed(alloc, contract, state, readable, telling, task.strict, face)?;
+    let strict = task.strict;
+    let printed = analysed(
+        alloc, contract, state, readable, telling, strict, &party, face,
+    )?;
     if !has_notes(task.explain, &printed) {
         return Ok(printed);
     }

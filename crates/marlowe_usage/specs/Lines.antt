@@ -87,10 +87,10 @@ next_rules = given (codes "CONTRACT") ∷ optional (codes "STATE") ∷ time (cod
 abbrev pub table_rules : List Rule
 table_rules = given (codes "CONTRACT") ∷ json ∷ depth ∷ explain ∷ []
 
--- `analyse CONTRACT [STATE] [--json] [--no-runs] [--all] [--notes] [--strict] [--depth N] [--text-numbers] [--explain]`
+-- `analyse CONTRACT [STATE] [--json] [--no-runs] [--all] [--notes] [--party P] [--strict] [--depth N] [--text-numbers] [--explain]`
 abbrev pub analyse_rules : List Rule
 analyse_rules = given (codes "CONTRACT") ∷ optional (codes "STATE") ∷ json ∷ flag (codes "no-runs") ∷ flag (codes "all") ∷ flag (codes "notes")
-    ∷ flag (codes "strict") ∷ depth ∷ text_numbers ∷ explain ∷ []
+    ∷ option (codes "party") ∷ flag (codes "strict") ∷ depth ∷ text_numbers ∷ explain ∷ []
 
 -- `play SCENARIO [--one] [--files] [--strict] [--expect-open NAME].. [--json] [--depth N] [--big-as-text] [--explain]`
 abbrev pub play_rules : List Rule

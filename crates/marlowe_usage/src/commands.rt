@@ -178,6 +178,7 @@ fn analyse_command<'a>(alloc: Global) -> Draft<'a>
     let no_runs = "Looks for no runs, which takes most of the time where none is found";
     let all = "Tells each alarm in full, also those of one kind at equal parts";
     let notes = "Tells what is likely a slip, though no run warns of it";
+    let party = "Tells what this party, as JSON, is paid at least and can lose while it keeps up";
     let strict = "Status 3 also where a part is told that no run reaches";
     Draft::new(alloc, "analyse", about)
         .after_help(after_help)
@@ -187,6 +188,7 @@ fn analyse_command<'a>(alloc: Global) -> Draft<'a>
         .with(flag(alloc, "no-runs", no_runs))
         .with(flag(alloc, "all", all))
         .with(flag(alloc, "notes", notes))
+        .with(option(alloc, "party", "P", party))
         .with(flag(alloc, "strict", strict))
         .with(depth(alloc))
         .with(text_numbers(alloc))

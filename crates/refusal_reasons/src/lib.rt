@@ -15,11 +15,11 @@ mod texts;
 
 pub use explanations::{
     Json, JsonValue, Numbers, ScenarioSort, Sort, Spelling, Spot, Stop, Told, first_stop,
-    from_slice, has, keys_in, part_members, put_next, scenario_stop,
+    from_slice, has, json_of, keys_in, part_members, put_next, scenario_stop,
 };
 pub use marlowe_explain::{Asked, Fault, Readable, TraceFault, beside_dropped, next, next_after};
 pub use reasoned::{Reasoned, run_reasoned, table_reasoned};
 pub use second_look::{reasons, table_reasons, table_told, transaction_told};
 pub use sequences::read_told;
 pub use source::{Behind, Over, Source, Sources, text_if};
-pub use texts::scenario_reasons;
+pub use texts::{party_reasons, scenario_reasons};

@@ -1,5 +1,6 @@
 //! One text that isn't read.
 ghost use Rattle.std.specs.Prelude.{IfOk};
+ghost use Rattle.json_forms.specs.declared.sort.Sort.TheVariants as sorts;
 ghost use Rattle.refusal_reasons.specs.Reasons.{TellsFlat, TellsScenario};
 
 use crate::source::Source;
@@ -24,6 +25,17 @@ pub(crate) fn flat_told(
         spelling,
     };
     explained(alloc, source.path, source.text, sort, how)
+}
+
+/// Why the text of a party isn't read; where it is read there are no bytes.
+pub fn party_reasons(
+    alloc: Global,
+    party: Source<'_>,
+    spelling: Spelling,
+) -> Result<Vec<u8>, Memory>
+    ensures { IfOk result (λ written. TellsFlat spelling party.entry sorts.Party written.items) }
+{
+    flat_told(alloc, party, Sort::Party, spelling)
 }
 
 /// Why `play` doesn't read a scenario, whose lists and objects may nest so deep; where it is read there are no bytes.

@@ -100,5 +100,13 @@ input_at body = read_as (part_refused parts.Input) (reading_at input body (codes
 abbrev pub party_at : Data → Result Party Refusal
 party_at body = read_as (part_refused parts.Party) (reading_at party body (codes "party"))
 
+abbrev party_or : Option Data → Result (Option Party) Refusal
+party_or None = Ok None
+party_or (Some d) = read_as (part_refused parts.Party) (party d) >>= λ p. Ok (Some p)
+
+-- .. if one is there
+abbrev pub party_if : Data → Result (Option Party) Refusal
+party_if body = party_or (get (codes "party") body)
+
 abbrev pub token_at : Data → Result Token Refusal
 token_at body = read_as (part_refused parts.Token) (reading_at token body (codes "token"))

@@ -10,7 +10,8 @@ mod transactions;
 
 pub use answer_lines::{ok_answer, reasoned_answer, refused_answer, traced_answer, without_feed};
 pub use parts::{
-    Given, contract_at, input_at, name_of, party_at, state_at, time_at, token_at, transaction_at,
+    Given, contract_at, input_at, name_of, party_at, party_if, state_at, time_at, token_at,
+    transaction_at,
 };
 pub use refusal::{LineFault, Part, Refusal};
 pub use text::text_of;

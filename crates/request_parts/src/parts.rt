@@ -4,7 +4,7 @@ ghost use Rattle.contract.specs.Collections.Answers.{Aside, AsideBy};
 ghost use Rattle.contract.specs.Tree.{contract_tree};
 ghost use Rattle.json_tree.specs.View.{view};
 ghost use Rattle.marlowe_run.specs.JsonWriteContracts.WrittenContract.{contract_fits};
-ghost use Rattle.request_parts.specs.Parts.{contract_at, contract_given, input_at, name_of, party_at, state_at, time_at, token_at, transaction_at};
+ghost use Rattle.request_parts.specs.Parts.{contract_at, contract_given, input_at, name_of, party_at, party_if, state_at, time_at, token_at, transaction_at};
 ghost use Rattle.request_parts.specs.Given.{given_contract};
 ghost use Rattle.request_parts.specs.PartsSupport.{AllFit};
 
@@ -168,6 +168,19 @@ pub fn party_at(alloc: Global, body: &Json<'_>) -> Result<Party, Refusal>
             Err(fault) => Err(Refusal::of_part(Part::Party, fault)),
         },
         None => Err(Refusal::of_part(Part::Party, JsonFault::NoForm)),
+    }
+}
+
+/// The party at the key `party`, if one is there.
+pub fn party_if(alloc: Global, body: &Json<'_>) -> Result<Option<Party>, Refusal>
+    ensures { Aside Refusal.Memory result (party_if (view body.now)) }
+{
+    match body.member("party") {
+        Some(json) => match party_from_json(alloc, json) {
+            Ok(party) => Ok(Some(party)),
+            Err(fault) => Err(Refusal::of_part(Part::Party, fault)),
+        },
+        None => Ok(None),
     }
 }
 

@@ -95,6 +95,7 @@ abbrev pub TellsFrom : Kind → Data → Standing → List ℕ → Type 0
 TellsFrom kinds.Run body a written = TellsRun body a written
 TellsFrom kinds.Trace body a written = TellsTrace body a written
 TellsFrom kinds.Next body a written = TellsNext body a written
+TellsFrom kinds.Analyse body a written = TellsAt sorts.Party (codes "party") body written
 TellsFrom kind body a written = written ≡ []
 
 -- ---- a request

@@ -110,6 +110,7 @@ fn from_told(
         Kind::Run => run_told(alloc, whole, start, body),
         Kind::Trace => trace_told(alloc, whole, start, body),
         Kind::Next => next_told(alloc, whole, start, body),
+        Kind::Analyse => told_at_key(alloc, Sort::Party, "party", body),
         _ => Ok(Vec::new(alloc)),
     }
 }

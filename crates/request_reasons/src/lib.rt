@@ -18,9 +18,9 @@ pub use refusal_reasons::{
     from_slice, next, next_after, put_next, scenario_reasons, table_reasons, text_if,
 };
 pub use request_parts::{
-    LineFault, Part, Refusal, contract_at, input_at, ok_answer, party_at, reasoned_answer,
-    refused_answer, state_at, text_of, time_at, token_at, traced_answer, transaction_at,
-    transactions_at, without_feed,
+    LineFault, Part, Refusal, contract_at, input_at, ok_answer, party_at, party_if,
+    reasoned_answer, refused_answer, state_at, text_of, time_at, token_at, traced_answer,
+    transaction_at, transactions_at, without_feed,
 };
 pub use requests::{Kind, id_text, is_object, line_json, request, sole_member, value_of};
 pub use second_look::reasons;

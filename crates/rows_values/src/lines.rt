@@ -82,13 +82,21 @@ fn analysis_told(alloc: Global, analyse: &AnalyseTask<'_>) -> Result<String, All
     let runs = if analyse.no_runs { " without runs" } else { "" };
     let all = if analyse.all { " in full" } else { "" };
     let notes = if analyse.notes { " with notes" } else { "" };
+    let (of, party) = party_told(analyse.party);
     let strictly = if analyse.strict { " strictly" } else { "" };
     let texts = texts_told(analyse.text_numbers);
     let explained = explain_told(analyse.explain);
     format!(in alloc;
-        "analyse {} {state}{form}{runs}{all}{notes}{strictly}{texts}{explained}",
+        "analyse {} {state}{form}{runs}{all}{notes}{of}{party}{strictly}{texts}{explained}",
         analyse.contract
     )
+}
+
+fn party_told(party: Option<&str>) -> (&str, &str) {
+    match party {
+        Some(party) => (" for ", party),
+        None => ("", ""),
+    }
 }
 
 fn play_told(alloc: Global, play: &PlayTask<'_>) -> Result<String, AllocError> {

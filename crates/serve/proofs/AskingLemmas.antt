@@ -1,7 +1,8 @@
 -- What is told of what is asked, step by step.
-use Rattle.std.proofs.Common.{◌≡◌, ◌≢◌, ℕ, List, Bool, Result, Ok, Err, refl, sym, ap, ◌∙◌, subst}
+use Rattle.std.proofs.Common.{◌≡◌, ◌≢◌, ℕ, List, Bool, Option, Result, Ok, Err, refl, sym, ap, ◌∙◌, subst}
 use Rattle.std.specs.declared.vec.Vec.{Vec}
 use Rattle.std.specs.declared.alloc.Global.{Global}
+use Rattle.contract.specs.Names.declared.party.Party.{Party}
 use Rattle.contract.specs.Tree.{ContractTree}
 use Rattle.contract.specs.States.States.{StateMaps}
 use Rattle.marlowe_trace.specs.MarloweRefusals.declared.fault.RunFault.TheVariants as run
@@ -11,7 +12,7 @@ use Rattle.request_reasons.specs.MarloweNext.declared.asked.Asked.{Asked}
 use Rattle.request_reasons.specs.MarloweNext.Answer.{IsAnswer}
 use Rattle.request_reasons.specs.MarloweNext.Question.{Reached, answered}
 use Rattle.marlowe_analyse.specs.declared.analysed.Telling.{Telling}
-use Rattle.marlowe_analyse.specs.Printed.{TellsOfTree}
+use Rattle.marlowe_analyse.specs.Keeping.{TellsFor}
 use Rattle.request_reasons.specs.RequestParts.Answered.{ok_answer, reasoned_answer, without_feed}
 use Rattle.request_reasons.specs.RequestParts.Refusals.{trace_refused}
 use Rattle.request_reasons.specs.RequestParts.declared.refusal.Refusal.{Refusal}
@@ -57,17 +58,17 @@ pub next_refused : (q : Asked) (reached : Result Reached TraceFault) (fault : Tr
 unfolding Told
 next_refused q reached fault refusal why is = λ n. (fault, why (λ e. n (is ∙ ap trace_refused e)), is)
 
-pub analysis_prints : (telling : Telling) (given clear unreached : Bool) (c : ContractTree) (s : StateMaps) (line : List ℕ) (text : Vec ℕ Global) → TellsOfTree telling given s c clear unreached line → text.items ≡ without_feed line
-    → Told (AnalysisPrints telling given c s) (Ok text)
+pub analysis_prints : (telling : Telling) (party : Option Party) (given clear unreached : Bool) (c : ContractTree) (s : StateMaps) (line : List ℕ) (text : Vec ℕ Global) → TellsFor telling party given s c clear unreached line → text.items ≡ without_feed line
+    → Told (AnalysisPrints telling given c s party) (Ok text)
 unfolding Told
-analysis_prints telling given clear unreached c s line text tells is = (clear, unreached, line, tells, is)
+analysis_prints telling party given clear unreached c s line text tells is = (clear, unreached, line, tells, is)
 
-pub prints_so : (telling asked : Telling) (given is_given : Bool) (c : ContractTree) (s : StateMaps) (result : Text) → telling ≡ asked → given ≡ is_given → Told (AnalysisPrints telling given c s) result → Told (AnalysisPrints asked is_given c s) result
-prints_so telling asked given is_given c s result is so h = subst (λ (g : Bool). Told (AnalysisPrints asked g c s) result) so (subst (λ (t : Telling). Told (AnalysisPrints t given c s) result) is h)
+pub prints_so : (telling asked : Telling) (given is_given : Bool) (c : ContractTree) (s : StateMaps) (party : Option Party) (result : Text) → telling ≡ asked → given ≡ is_given → Told (AnalysisPrints telling given c s party) result → Told (AnalysisPrints asked is_given c s party) result
+prints_so telling asked given is_given c s party result is so h = subst (λ (g : Bool). Told (AnalysisPrints asked g c s party) result) so (subst (λ (t : Telling). Told (AnalysisPrints t given c s party) result) is h)
 
-pub analysis_memory : (telling : Telling) (given : Bool) (c : ContractTree) (s : StateMaps) → Told (AnalysisPrints telling given c s) (Err refusals.Memory)
+pub analysis_memory : (telling : Telling) (given : Bool) (c : ContractTree) (s : StateMaps) (party : Option Party) → Told (AnalysisPrints telling given c s party) (Err refusals.Memory)
 unfolding Told
-analysis_memory telling given c s = λ n. absurd (n refl)
+analysis_memory telling given c s party = λ n. absurd (n refl)
 
 -- ---- what is answered
 

@@ -3,6 +3,7 @@ use Rattle.std.specs.Prelude.{◌≡◌, ℕ, Bool, true, false, not, List, Opti
 use Rattle.std.specs.Option.{option_and_then}
 use Rattle.contract.specs.Collections.Answers.{◌>>=◌}
 use Rattle.contract.specs.declared.transaction.Transaction.{Transaction}
+use Rattle.contract.specs.Names.declared.party.Party.{Party}
 use Rattle.contract.specs.Tree.{ContractTree, contract_tree}
 use Rattle.contract.specs.States.States.{StateMaps}
 use Rattle.serde_json.specs.Data.{Data}
@@ -14,10 +15,10 @@ use Rattle.request_reasons.specs.MarloweNext.declared.asked.Asked.{Asked}
 use Rattle.request_reasons.specs.MarloweNext.Answer.{IsAnswer}
 use Rattle.request_reasons.specs.MarloweNext.Question.{Reached, answered, reached_by}
 use Rattle.marlowe_analyse.specs.declared.analysed.Telling.{Telling}
-use Rattle.marlowe_analyse.specs.Printed.{TellsOfTree}
+use Rattle.marlowe_analyse.specs.Keeping.{TellsFor}
 use Rattle.request_reasons.specs.Definitions.declared.definition.Definition.{Definition}
 use Rattle.request_reasons.specs.RequestParts.Answered.{without_feed}
-use Rattle.request_reasons.specs.RequestParts.Parts.{contract_at, state_at, time_at, transactions_at}
+use Rattle.request_reasons.specs.RequestParts.Parts.{contract_at, party_if, state_at, time_at, transactions_at}
 use Rattle.request_reasons.specs.RequestParts.Refusals.{trace_refused}
 use Rattle.request_reasons.specs.RequestParts.declared.refusal.Part.TheVariants as parts
 use Rattle.request_reasons.specs.RequestParts.declared.refusal.Refusal.{Refusal}
@@ -69,12 +70,17 @@ abbrev pub telling_of : Data → Telling
 telling_of body = record { tools = true; runs = not (is_true_at (codes "no_runs") body); all = true; notes = is_true_at (codes "notes") body }
 
 -- what `analyse --json` prints; it refuses nothing
-abbrev pub AnalysisPrints : Telling → Bool → ContractTree → StateMaps → Result (List ℕ) Refusal → Type 0
-AnalysisPrints telling given c s (Ok text) = (clear unreached : Bool) × (line : List ℕ) × TellsOfTree telling given s c clear unreached line × (text ≡ without_feed line)
-AnalysisPrints telling given c s (Err refusal) = ⊥
+abbrev pub AnalysisPrints : Telling → Bool → ContractTree → StateMaps → Option Party → Result (List ℕ) Refusal → Type 0
+AnalysisPrints telling given c s party (Ok text) =
+    (clear unreached : Bool) × (line : List ℕ) × TellsFor telling party given s c clear unreached line × (text ≡ without_feed line)
+AnalysisPrints telling given c s party (Err refusal) = ⊥
+
+-- .. of the party at the key `party`, if one is there
+abbrev pub TellsAnalysisFrom : Data → ContractTree → StateMaps → Result (List ℕ) Refusal → Type 0
+TellsAnalysisFrom body c s = Then (party_if body) (AnalysisPrints (telling_of body) (has (codes "state") body) c s)
 
 abbrev pub TellsAnalysisOf : Bool → Data → ContractTree → Result (List ℕ) Refusal → Type 0
-TellsAnalysisOf texts body c = Then (state_at texts body) (AnalysisPrints (telling_of body) (has (codes "state") body) c)
+TellsAnalysisOf texts body c = Then (state_at texts body) (TellsAnalysisFrom body c)
 
 -- for these parts
 abbrev pub TellsAnalysis : Bool → List Definition → Data → Result (List ℕ) Refusal → Type 0

@@ -4,14 +4,14 @@ ghost use Rattle.contract.specs.Tree.{contract_tree};
 ghost use Rattle.json_tree.specs.View.{view};
 ghost use Rattle.request_reasons.specs.RequestParts.Answered.{without_feed};
 ghost use Rattle.request_reasons.specs.RequestParts.PartsSupport.{AllFit};
-ghost use Rattle.serve.specs.Asking.{AnalysisPrints, TellsAnalysis, TellsAnalysisOf, is_true_at, telling_of};
+ghost use Rattle.serve.specs.Asking.{AnalysisPrints, TellsAnalysis, TellsAnalysisFrom, TellsAnalysisOf, is_true_at, telling_of};
 ghost use Rattle.serve.specs.AskingSupport.{Told};
 
-use contract::{Contract, State};
+use contract::{Contract, Party, State};
 use json_tree::{Json, JsonValue};
-use marlowe_analyse::{Analysed, Telling, analysis_text};
+use marlowe_analyse::{Analysed, Telling, analysis_for};
 use marlowe_trace::{beside_dropped, has};
-use request_reasons::{Definitions, Refusal, contract_at, state_at, without_feed};
+use request_reasons::{Definitions, Refusal, contract_at, party_if, state_at, without_feed};
 use std::alloc::Global;
 
 // The analysis of a contract from a state, as JSON, on a line of so many bytes.
@@ -46,11 +46,9 @@ fn analysis_of(
 ) -> Result<Vec<u8>, Refusal>
     ensures { Told (TellsAnalysisOf texts (view body.now) (contract_tree contract.now)) result }
 {
-    let given = has(body, "state");
-    let telling = telling_of(body);
     match state_at(alloc, texts, body) {
         Ok(state) => {
-            let told = analysis_told(alloc, contract, &state, given, bytes, telling);
+            let told = analysis_from(alloc, contract, &state, bytes, body);
             beside_dropped(state, told)
         }
         Err(refusal) => Err(refusal),
@@ -58,6 +56,28 @@ fn analysis_of(
 }
 
 // .. from this state, which may be given, and told so.
+#[tactic(auto, using(crate::proofs::AskingLemmas::part_steps))]
+fn analysis_from(
+    alloc: Global,
+    contract: &Contract,
+    state: &State,
+    bytes: usize,
+    body: &Json<'_>,
+) -> Result<Vec<u8>, Refusal>
+    ensures { Told (TellsAnalysisFrom (view body.now) (contract_tree contract.now) state.now) result }
+{
+    let given = has(body, "state");
+    let telling = telling_of(body);
+    match party_if(alloc, body) {
+        Ok(party) => {
+            let told = analysis_told(alloc, contract, state, given, bytes, telling, &party);
+            beside_dropped(party, told)
+        }
+        Err(refusal) => Err(refusal),
+    }
+}
+
+// .. for this party, if there is one.
 fn analysis_told(
     alloc: Global,
     contract: &Contract,
@@ -65,10 +85,11 @@ fn analysis_told(
     given: bool,
     bytes: usize,
     telling: Telling,
+    party: &Option<Party>,
 ) -> Result<Vec<u8>, Refusal>
-    ensures { Told (AnalysisPrints telling given (contract_tree contract.now) state.now) result }
+    ensures { Told (AnalysisPrints telling given (contract_tree contract.now) state.now party.now) result }
 {
-    match analysis_text(alloc, contract, state, given, bytes, telling) {
+    match analysis_for(alloc, contract, state, given, bytes, telling, party) {
         Ok(told) => Ok(line_of(told)),
         Err(_) => Err(Refusal::Memory),
     }

@@ -26,4 +26,4 @@ abbrev pub decreases-walk_case : goal.decreases-walk_case
 decreases-walk_case l = 4 * nodes (contract_tree l.case.now.then) + 2
 
 abbrev pub invariant-walk_cases-loop-index : goal.invariant-walk_cases-loop-index
-invariant-walk_cases-loop-index l = CoverBelow l.each l.cases l.index l.fn.rows l.rows
+invariant-walk_cases-loop-index l = CoverBelow l.question l.quiet l.each l.cases l.index l.fn.rows l.rows

@@ -10,8 +10,8 @@ returns-in-Ok c =
     let is = c.in-Ok.ensures.reading in
     let r = c.analysed_from-told.result in
     rw c.beside_dropped.ensures (record {
-      told = all_told_so c.args.telling c.args.readable text start given is r c.analysed_from-told.ensures.told;
-      clear = is_clear_so c.args.telling c.args.readable text start given is r c.analysed_from-told.ensures.told;
+      told = all_told_so c.args.telling c.args.party.now c.args.readable text start given is r c.analysed_from-told.ensures.told;
+      clear = is_clear_so c.args.telling c.args.party.now c.args.readable text start given is r c.analysed_from-told.ensures.told;
       read = read_as_started c.args.readable text start given r is c.analysed_from-told.ensures.read;
     })
 

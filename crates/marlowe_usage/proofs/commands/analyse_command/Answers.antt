@@ -1,6 +1,6 @@
 use Rattle.std.proofs.Common.{codes}
 use Rattle.clap.specs.Words.{new_app, with_rule}
-use Rattle.marlowe_usage.specs.Lines.{given, optional, flag, json, depth, text_numbers, explain}
+use Rattle.marlowe_usage.specs.Lines.{given, optional, option, flag, json, depth, text_numbers, explain}
 use Rattle.marlowe_usage.proofs.commands.analyse_command.Goals as goal
 
 pub returns : goal.returns
@@ -19,10 +19,12 @@ returns c =
     let five = with_rule four (flag (codes "all")) in
     let with_six = c.with-6.ensures five (flag (codes "notes")) with_five c.flag-3.ensures in
     let six = with_rule five (flag (codes "notes")) in
-    let with_seven = c.with-7.ensures six (flag (codes "strict")) with_six c.flag-4.ensures in
-    let seven = with_rule six (flag (codes "strict")) in
-    let with_eight = c.with-8.ensures seven depth with_seven c.depth.ensures in
-    let eight = with_rule seven depth in
-    let with_nine = c.with-9.ensures eight text_numbers with_eight c.text_numbers.ensures in
-    let nine = with_rule eight text_numbers in
-    c.with-10.ensures nine explain with_nine c.explain.ensures
+    let with_seven = c.with-7.ensures six (option (codes "party")) with_six c.option.ensures in
+    let seven = with_rule six (option (codes "party")) in
+    let with_eight = c.with-8.ensures seven (flag (codes "strict")) with_seven c.flag-4.ensures in
+    let eight = with_rule seven (flag (codes "strict")) in
+    let with_nine = c.with-9.ensures eight depth with_eight c.depth.ensures in
+    let nine = with_rule eight depth in
+    let with_ten = c.with-10.ensures nine text_numbers with_nine c.text_numbers.ensures in
+    let ten = with_rule nine text_numbers in
+    c.with-11.ensures ten explain with_ten c.explain.ensures

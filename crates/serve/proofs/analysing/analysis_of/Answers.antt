@@ -1,15 +1,12 @@
-use Rattle.std.proofs.Common.{codes, refl}
+use Rattle.std.proofs.Common.{refl}
 use Rattle.contract.specs.Tree.{contract_tree}
 use Rattle.json_tree.specs.View.{view}
-use Rattle.marlowe_trace.specs.JsonReadNames.Forms.{has}
 use Rattle.request_reasons.specs.RequestParts.Parts.{state_at}
-use Rattle.serve.specs.Asking.{AnalysisPrints, telling_of}
-use Rattle.serve.proofs.AskingLemmas.{prints_so, tells_on}
+use Rattle.serve.specs.Asking.{TellsAnalysisFrom}
+use Rattle.serve.proofs.AskingLemmas.{tells_on}
 use Rattle.serve.proofs.analysing.analysis_of.Goals as goal
 
 pub returns-in-Ok : goal.returns-in-Ok
 returns-in-Ok c =
-    tells_on (AnalysisPrints (telling_of (view c.args.body.now)) (has (codes "state") (view c.args.body.now)) (contract_tree c.args.contract.now)) (state_at c.args.texts (view c.args.body.now)) c.in-Ok.state c.in-Ok.state c.analysis_told-told.result c.beside_dropped.result
-    c.in-Ok.ensures refl c.beside_dropped.ensures
-    (prints_so c.telling_of-telling.result (telling_of (view c.args.body.now)) c.has-given.result (has (codes "state") (view c.args.body.now)) (contract_tree c.args.contract.now) c.in-Ok.state c.analysis_told-told.result
-    c.telling_of-telling.ensures c.has-given.ensures c.analysis_told-told.ensures)
+    tells_on (TellsAnalysisFrom (view c.args.body.now) (contract_tree c.args.contract.now)) (state_at c.args.texts (view c.args.body.now)) c.in-Ok.state c.in-Ok.state c.analysis_from-told.result c.beside_dropped.result
+    c.in-Ok.ensures refl c.beside_dropped.ensures c.analysis_from-told.ensures

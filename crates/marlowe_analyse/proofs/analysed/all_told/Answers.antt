@@ -1,8 +1,9 @@
-use Rattle.std.proofs.Common.{◌≡◌, ℕ, Bool, not, Option, List, length, map, sym, ap, ◌∙◌, subst, arith}
+use Rattle.std.proofs.Common.{◌≡◌, ℕ, Bool, true, false, not, Option, List, length, map, sym, ap, ◌∙◌, subst, arith}
 use Rattle.std.specs.Prelude.{◌==◌}
 use Rattle.contract.specs.Tree.{contract_tree}
 use Rattle.analysis_spec.specs.declared.alarm.Alarm.{Alarm}
-use Rattle.analysis_spec.specs.Analysed.{StaysUnlessTold}
+use Rattle.analysis_spec.specs.Analysed.{IsSilent, StaysUnlessTold}
+use Rattle.analysis_spec.specs.declared.kind.AlarmKind.TheVariants.{Leaves128}
 use Rattle.analysis_spec.specs.declared.paid.PaidRange.{PaidRange}
 use Rattle.analysis_spec.specs.declared.path.PathStep.{PathStep}
 use Rattle.losses.specs.declared.loss.Loss.{Loss}
@@ -13,8 +14,8 @@ use Rattle.marlowe_analyse.specs.Printed.{printed}
 use Rattle.marlowe_analyse.specs.Told.{LeastsCanCome, IsOut, AreLosses}
 use Rattle.marlowe_analyse.specs.OnceSupport.{ToldOnce}
 use Rattle.marlowe_analyse.specs.RunsSupport.{HoldRanges, TellsAll, TellPlaces}
-use Rattle.marlowe_analyse.proofs.AnalysedLemmas.{tells_of_tree, fits_once, empty_is, not_empty_is}
-use Rattle.marlowe_analyse.proofs.analysed.analysis_text.Goals as goal
+use Rattle.marlowe_analyse.proofs.AnalysedLemmas.{tells_of_tree, fits_once, empty_is, not_empty_is, none_leave, stays_within}
+use Rattle.marlowe_analyse.proofs.analysed.all_told.Goals as goal
 
 pub told_ranges-requires : goal.told_ranges-requires
 told_ranges-requires c = record { paid = c.in_ok-alarms.ensures.ranges; unpaid = c.in_ok-alarms.ensures.others }
@@ -22,8 +23,8 @@ told_ranges-requires c = record { paid = c.in_ok-alarms.ensures.ranges; unpaid =
 pub told_out-out-requires : goal.told_out-out-requires
 told_out-out-requires c = subst (λ (found : List Alarm). StaysUnlessTold found c.args.state.now (contract_tree c.args.contract.now)) (sym c.as_slice.ensures) c.in_ok-alarms.ensures.numbers
 
-pub returns : goal.returns
-returns c =
+pub returns-clause-told : goal.returns-clause-told
+returns-clause-told c =
     let a = c.in_ok-alarms.field-0 in
     let s = c.args.state.now in
     let t = contract_tree c.args.contract.now in
@@ -45,8 +46,24 @@ returns c =
     (subst (λ (rs : List PaidRange). HoldRanges s t rs) (sym more.ranges) c.in_ok-ranges.ensures.hold) (subst (λ (rs : List PaidRange). LeastsCanCome rs s t) (sym more.ranges) c.in_ok-ranges.ensures.leasts) more.reached
     (subst (λ (found : List Alarm). IsOut s t found time) c.as_slice.ensures c.told_out-out.ensures)
     (subst (λ (ls : Option (List Loss)). AreLosses s t a.alarms ls) (sym more.losses) (subst (λ (found : List Alarm). AreLosses s t found taken) c.as_slice-2.ensures c.in_ok-losses.ensures)) more.lost
-    (subst (λ (found : List Alarm). TellsAll s t found told) c.as_slice-3.ensures c.in_ok-alarms-2.ensures) part (subst (λ (found : List (List PathStep)). TellPlaces found ways) c.as_slice-4.ensures c.in_ok-unreached.ensures)
+    (subst (λ (found : List Alarm). TellsAll s t found told) c.as_slice-5.ensures c.in_ok-alarms-2.ensures) part (subst (λ (found : List (List PathStep)). TellPlaces found ways) c.as_slice-6.ensures c.in_ok-unreached.ensures)
     (empty_is told c.is_empty-is_clear.result (c.is_empty-is_clear.ensures ∙ ap (λ (n : ℕ). n == 0) few)) (not_empty_is ways c.is_empty-has_unreached.result c.is_empty-has_unreached.ensures) text
+
+pub returns-clause-within : goal.returns-clause-within
+returns-clause-within c =
+    let a = c.in_ok-alarms.field-0 in
+    stays_within c.args.state.now (contract_tree c.args.contract.now) a.alarms c.leaves.result c.in_ok-alarms.ensures.numbers
+    (subst (λ (found : List Alarm). c.leaves.result ≡ false → IsSilent found Leaves128) c.as_slice-3.ensures c.leaves.ensures.none)
+
+pub returns-clause-silent : goal.returns-clause-silent
+returns-clause-silent c =
+    let a = c.in_ok-alarms.field-0 in
+    let told = c.in_ok-alarms-2.alarms.items in
+    let few : c.in_ok-alarms-2.alarms.len ≡ length told = omega (arith, c.in_ok-alarms-2.alarms.ok.0) in
+    none_leave c.args.state.now (contract_tree c.args.contract.now) a.alarms told c.is_empty-is_clear.result c.leaves.result
+    (subst (λ (found : List Alarm). TellsAll c.args.state.now (contract_tree c.args.contract.now) found told) c.as_slice-5.ensures c.in_ok-alarms-2.ensures)
+    (empty_is told c.is_empty-is_clear.result (c.is_empty-is_clear.ensures ∙ ap (λ (n : ℕ). n == 0) few))
+    (subst (λ (found : List Alarm). c.leaves.result ≡ true → IsSilent found Leaves128 → ⊥) c.as_slice-3.ensures c.leaves.ensures.some)
 
 pub told_once-requires : goal.told_once-requires
 told_once-requires c = c.in_ok-alarms-2.ensures.so.fit

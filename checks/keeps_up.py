@@ -1,0 +1,237 @@
+#!/usr/bin/env python3
+"""Makes small contracts and runs at random, judges by the definition in which of them a party keeps up, and looks whether such a run leaves a When
+by its timeout that `kept_up` never leaves so.
+
+Needs    nothing built
+Usage    checks/keeps_up.py [CONTRACTS [SEED]]     20,000 contracts from the seed 0 on, where nothing else is said; 12 runs of each
+Expect   how many runs there were, in how many the party kept up and how many of those closed, how many Whens are never left, and
+         `N contracts, N runs, no difference`
+Else     the contract, the state, the transactions and the timeouts, and status 1.
+
+The definition is that of crates/keeping_up/specs/KeepsUp.antt, tried at every moment from the minimum time on: times lie below 14. Which Whens are
+never left is that of crates/loss_walk/specs/Cuts.antt. It says nothing of sums: which those are is the walk's part, and proved.
+"""
+import collections, os, random, sys
+
+sys.path.insert(0, os.path.dirname(os.path.abspath(__file__)))
+import interpreter
+from interpreter import Refused, Transaction, has
+
+PARTY, OTHER = {"role_token": "p"}, {"role_token": "q"}
+ADA = {"currency_symbol": "", "token_name": ""}
+TIMES = ("time_interval_start", "time_interval_end")
+COMPARISONS = ("ge_than", "gt", "lt", "le_than", "equal_to")
+RUNS, MOST_TRANSACTIONS, LATEST = 12, 6, 9
+
+
+# ---- contracts
+
+class Maker:
+    """Makes a contract form by form, of two parties, one token and small numbers."""
+
+    def __init__(self, chance):
+        self.chance = chance
+
+    def one(self, *many):
+        return self.chance.choice(many)
+
+    def choice_id(self):
+        return {"choice_name": "c", "choice_owner": self.one(PARTY, OTHER)}
+
+    def value(self, depth=2):
+        kind = self.chance.random()
+        if kind < 0.3 or not depth:
+            return self.one(0, 1, 2, 3, 5)
+        if kind < 0.45:
+            return self.one(*TIMES)
+        if kind < 0.7:
+            return {"value_of_choice": self.choice_id()}
+        if kind < 0.8:
+            return {"use_value": "x"}
+        if kind < 0.9:
+            return {"amount_of_token": ADA, "in_account": self.one(PARTY, OTHER)}
+        return {"add": self.value(depth - 1), "and": self.value(depth - 1)}
+
+    def observation(self):
+        kind = self.chance.random()
+        if kind < 0.15:
+            return {"chose_something_for": self.choice_id()}
+        if kind < 0.2:
+            return {"not": self.observation()}
+        return {"value": self.value(), self.one(*COMPARISONS): self.value()}
+
+    def action(self):
+        kind = self.chance.random()
+        if kind < 0.4:
+            return {"party": self.one(PARTY, OTHER), "deposits": self.value(1), "of_token": ADA, "into_account": self.one(PARTY, OTHER)}
+        if kind < 0.8:
+            low = self.one(0, 0, 1, 2)
+            return {"for_choice": self.choice_id(), "choose_between": [{"from": low, "to": low + self.one(-1, 0, 1, 3)}]}
+        return {"notify_if": self.observation()}
+
+    def contract(self, depth):
+        if not depth or self.chance.random() < 0.08:
+            return "close"
+        kind = self.chance.random()
+        if kind < 0.6:
+            cases = [{"case": self.action(), "then": self.contract(depth - 1)} for _ in range(self.one(0, 1, 1, 2, 2))]
+            return {"when": cases, "timeout": self.chance.randrange(LATEST), "timeout_continuation": self.contract(depth - 1)}
+        if kind < 0.7:
+            to = {"party": self.one(PARTY, OTHER)}
+            return {"pay": self.value(), "token": ADA, "from_account": self.one(PARTY, OTHER), "to": to, "then": self.contract(depth - 1)}
+        if kind < 0.85:
+            return {"if": self.observation(), "then": self.contract(depth - 1), "else": self.contract(depth - 1)}
+        if kind < 0.95:
+            return {"let": "x", "be": self.value(), "then": self.contract(depth - 1)}
+        return {"assert": self.observation(), "then": self.contract(depth - 1)}
+
+
+# ---- the definition
+
+def is_own(action):
+    """Whether the party can take an action by itself."""
+    if has(action, "deposits"):
+        return action["party"] == PARTY
+    if has(action, "for_choice"):
+        return action["for_choice"]["choice_owner"] == PARTY and any(b["from"] <= b["to"] for b in action["choose_between"])
+    return False
+
+
+def asks(c):
+    return any(is_own(case["case"]) for case in c["when"])
+
+
+def waits_until(contract, state, moment):
+    """The time up to which a contract waits for the party at a moment, if it does."""
+    machine = Transaction({**state, "minTime": moment}, {"from": moment, "to": moment})
+    left = machine.settle(contract)
+    return left["timeout"] if left != "close" and asks(left) else None
+
+
+def is_in_time(contract, state, start):
+    """Whether a transaction begins before each such time."""
+    waits = (waits_until(contract, state, moment) for moment in range(state["minTime"], start + 1))
+    return all(time is None or start < time for time in waits)
+
+
+# ---- what the walk never leaves
+
+def reads_time(it):
+    if isinstance(it, dict):
+        return any(map(reads_time, it.values()))
+    return it in TIMES if isinstance(it, str) else False
+
+
+def cut(contract, start):
+    """The Whens that aren't left by their timeouts, as objects."""
+    found, todo = [], [(contract, start, True)]
+    while todo:
+        c, latest, timeless = todo.pop()
+        if c == "close":
+            continue
+        if has(c, "when"):
+            if asks(c) and timeless and latest < c["timeout"]:
+                found.append(c)
+            todo += [(case["then"], c["timeout"], True) for case in c["when"]]
+            todo.append((c["timeout_continuation"], max(latest, c["timeout"]), timeless))
+            continue
+        read = next((c[key] for key in ("pay", "if", "be") if key in c), None)
+        todo += [(c[key], latest, timeless and not reads_time(read)) for key in ("then", "else") if key in c]
+    return found
+
+
+# ---- runs
+
+class Noting(Transaction):
+    """A transaction that notes which Whens it leaves by their timeouts."""
+
+    def __init__(self, state, interval):
+        super().__init__(state, interval)
+        self.left = []
+
+    def settle(self, c):
+        while c != "close" and not (has(c, "when") and self.start < c["timeout"]):
+            if has(c, "when"):
+                self.left.append(c)
+                self.turned, c = True, c["timeout_continuation"]
+            elif has(c, "pay"):
+                self.pay(c)
+                self.turned, c = True, c["then"]
+            elif has(c, "if"):
+                self.turned, c = True, c["then" if self.holds(c["if"]) else "else"]
+            elif has(c, "let"):
+                self.bound[c["let"]] = self.value(c["be"])
+                self.turned, c = True, c["then"]
+            else:
+                self.holds(c["assert"])
+                self.turned, c = True, c["then"]
+        return super().settle(c)
+
+
+def made_input(chance, machine, action):
+    if has(action, "deposits"):
+        return {"input_from_party": action["party"], "that_deposits": machine.value(action["deposits"]), "of_token": ADA, "into_account": action["into_account"]}
+    if has(action, "for_choice"):
+        bound = chance.choice(action["choose_between"])
+        return {"for_choice_id": action["for_choice"], "input_that_chooses_num": chance.choice([bound["from"], bound["to"]])}
+    return "input_notify"
+
+
+def played(chance, contract, state):
+    """A random transaction at its end and what it leaves, or nothing where it is refused; and where it starts."""
+    start = max(0, state["minTime"] + chance.choice([-1, 0, 0, 1, 2, 3]))
+    machine = Noting(state, {"from": start, "to": start + chance.choice([0, 0, 0, 1, 3])})
+    left = machine.settle(contract)
+    for _ in range(chance.choice([0, 0, 1, 1, 1, 2, 3])):
+        if left == "close" or not left["when"]:
+            break
+        left = machine.settle(machine.apply(made_input(chance, machine, chance.choice(left["when"])["case"]), left))
+    if not machine.turned:
+        machine.refuse("Useless")
+    return start, machine, left
+
+
+def run(chance, contract, state, count):
+    """A random run: the Whens that it left by their timeouts, and whether the party kept up."""
+    keeps, left = True, []
+    for _ in range(MOST_TRANSACTIONS):
+        try:
+            start, machine, behind = played(chance, contract, state)
+        except Refused:
+            continue
+        keeps = keeps and is_in_time(contract, state, start)
+        left += machine.left
+        contract, state = behind, interpreter.state_json(machine, int)
+        if contract == "close":
+            break
+    count["runs"] += 1
+    count["in which it kept up"] += keeps
+    count["of them closed"] += keeps and contract == "close"
+    return keeps, left
+
+
+def main():
+    given = [int(it) for it in sys.argv[1:]]
+    contracts, seed = (given + [20_000, 0][len(given):])[:2]
+    count = collections.Counter()
+    for number in range(contracts):
+        chance = random.Random(f"{seed}.{number}")
+        contract = Maker(chance).contract(chance.choice([2, 3, 4, 5]))
+        state = {"accounts": [], "boundValues": [], "choices": [], "minTime": chance.choice([0, 0, 2, 4])}
+        never = cut(contract, state["minTime"])
+        count["Whens that are never left"] += len(never)
+        for _ in range(RUNS):
+            keeps, left = run(chance, contract, state, count)
+            wrong = [it for it in left if any(it is other for other in never)]
+            if keeps and wrong:
+                print(f"{seed}.{number}", contract, state, [it["timeout"] for it in wrong], sep="\n")
+                return 1
+            count["others that left one"] += not keeps and bool(wrong)
+    for kind, many in count.items():
+        print(f"{many:9} {kind}")
+    print(f"{contracts} contracts, {count['runs']} runs, no difference")
+    return 0
+
+
+if __name__ == "__main__":
+    sys.exit(main())

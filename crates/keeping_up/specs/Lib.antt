@@ -1,0 +1,3 @@
+pub mod KeepsUp
+pub mod Told
+pub mod Rows
