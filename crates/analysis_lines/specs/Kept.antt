@@ -12,11 +12,6 @@ use Rattle.analysis_lines.specs.Tools.{bound_json}
 
 -- ---- for people
 
--- what it is paid at least, once the contract is closed
-abbrev pub least_text : Option ℤ → List ℕ
-least_text None = codes "at least not known"
-least_text (Some n) = codes "at least " ++ signed_decimal n
-
 -- how much more it brings than it is paid, at most: below 0 it is paid so much more
 abbrev pub up_text : ℤ → List ℕ
 up_text n = codes "at least " ++ (decimal (unsigned_abs n) ++ codes " up")
@@ -25,21 +20,26 @@ abbrev pub down_text : Option ℤ → List ℕ
 down_text None = loss_text None
 down_text (Some n) = if int_lt n (pos 0) then up_text n else loss_text (Some n)
 
--- .. both
+-- what it is paid at least once the contract is closed, and that
 abbrev pub sure_text : Kept → List ℕ
-sure_text k = least_text k.least ++ (codes ", " ++ (down_text k.most ++ codes " while it keeps up"))
+sure_text k = codes "at least " ++ (signed_decimal k.least ++ (codes ", " ++ (down_text k.most ++ codes " while it keeps up")))
 
 abbrev pub kept_line : Bool → Party → Kept → List ℕ
 kept_line given p k = holder_text p k.token ++ (sure_text k ++ given_text given)
 
+-- .. where no token is told
+abbrev pub nothing_line : Bool → Party → List ℕ
+nothing_line given p = compact_text (party_json p) ++ (codes " at least 0, never down of any token while it keeps up" ++ given_text given)
+
 abbrev pub kept_lines : Bool → Party → Option (List Kept) → List ℕ
 kept_lines given p None = []
-kept_lines given p (Some ks) = flat_map (kept_line given p) ks
+kept_lines given p (Some []) = nothing_line given p
+kept_lines given p (Some (k ∷ ks)) = flat_map (kept_line given p) (k ∷ ks)
 
 -- ---- for tools
 
 abbrev pub kept_token_json : Kept → Data
-kept_token_json k = three (codes "down") (bound_json k.most) (codes "least") (bound_json k.least) (codes "token") (token_json k.token)
+kept_token_json k = three (codes "down") (bound_json k.most) (codes "least") (bound_json (Some k.least)) (codes "token") (token_json k.token)
 
 -- null where it isn't told
 abbrev pub tokens_json : Option (List Kept) → Data

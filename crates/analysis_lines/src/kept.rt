@@ -1,22 +1,22 @@
 //! What is told of a party that keeps up.
-ghost use Rattle.std.specs.Prelude.{◌≡◌, ◌++◌, ◌-◌, length, map, flat_map, take, IfOk, OnOk, string_bytes};
+ghost use Rattle.std.specs.Prelude.{◌≡◌, ◌++◌, ◌-◌, length, map, flat_map, take, Some, IfOk, OnOk, string_bytes};
 ghost use Rattle.serde_json.specs.Data.{array};
 ghost use Rattle.serde_json.specs.View.{items_of};
 ghost use Rattle.serde_json.specs.Written.{compact_text};
 ghost use Rattle.json_write_contracts.specs.Tokens.{Puts};
-ghost use Rattle.analysis_lines.specs.Kept.{down_text, kept_json, kept_line, kept_lines, kept_token_json, least_text, sure_text, tokens_json, up_text, with_kept, with_member};
+ghost use Rattle.analysis_lines.specs.Kept.{down_text, kept_json, kept_line, kept_lines, kept_token_json, nothing_line, sure_text, tokens_json, up_text, with_kept, with_member};
 
 use crate::lines::{loss_text, put_bytes, put_given};
 use crate::reached::put_holder;
 use crate::tools::{put_bound, put_null};
 use contract::{Items, Memory, Party};
 use json::Writer;
-use json_write_contracts::{put_party, put_token};
+use json_write_contracts::{put_party, put_token, term_text};
 use keeping_up::Kept;
 use std::alloc::Global;
 
-/// A text that tells of an analysis, with what is told of a party that keeps up: for people lines behind the others, each of one token, and
-/// none where it isn't told; for tools a last member of the object.
+/// A text that tells of an analysis, with what is told of a party that keeps up: for people lines behind the others, each of one token,
+/// or one where no token is told, and none where it isn't told at all; for tools a last member of the object.
 pub fn with_kept(
     alloc: Global,
     text: Vec<u8>,
@@ -59,9 +59,34 @@ fn put_kept(
     ensures { OnOk result (out.new.items ≡ out.old.items ++ kept_lines given party.now kept.now) }
 {
     match kept {
-        Some(kept) => put_each(alloc, out, given, party, kept.as_slice()),
+        Some(kept) => put_all(alloc, out, given, party, kept.as_slice()),
         None => Ok(()),
     }
+}
+
+fn put_all(
+    alloc: Global,
+    out: &mut Vec<u8>,
+    given: bool,
+    party: &Party,
+    kept: &[Kept],
+) -> Result<(), Memory>
+    ensures { OnOk result (out.new.items ≡ out.old.items ++ kept_lines given party.now (Some kept.now)) }
+{
+    if kept.is_empty() {
+        put_nothing(alloc, out, given, party)
+    } else {
+        put_each(alloc, out, given, party, kept)
+    }
+}
+
+fn put_nothing(alloc: Global, out: &mut Vec<u8>, given: bool, party: &Party) -> Result<(), Memory>
+    ensures { OnOk result (out.new.items ≡ out.old.items ++ nothing_line given party.now) }
+{
+    let party = term_text(alloc, party)?;
+    put_bytes(out, party.as_bytes())?;
+    put_bytes(out, b" at least 0, never down of any token while it keeps up")?;
+    put_given(out, given)
 }
 
 fn put_each(
@@ -98,18 +123,9 @@ fn put_line(
 fn sure_text(alloc: Global, kept: &Kept) -> Result<String, Memory>
     ensures { IfOk result (λ text. string_bytes text ≡ sure_text kept.now) }
 {
-    let least = least_text(alloc, kept.least)?;
+    let least = kept.least;
     let most = down_text(alloc, kept.most)?;
-    format!(in alloc; "{least}, {most} while it keeps up")
-}
-
-fn least_text(alloc: Global, least: Option<i128>) -> Result<String, Memory>
-    ensures { IfOk result (λ text. string_bytes text ≡ least_text least) }
-{
-    match least {
-        Some(least) => format!(in alloc; "at least {least}"),
-        None => format!(in alloc; "at least not known"),
-    }
+    format!(in alloc; "at least {least}, {most} while it keeps up")
 }
 
 fn down_text(alloc: Global, most: Option<i128>) -> Result<String, Memory>
@@ -206,7 +222,7 @@ fn put_token_of(alloc: Global, out: &mut Writer, kept: &Kept) -> Result<(), Memo
     out.key("down")?;
     put_bound(alloc, out, kept.most)?;
     out.key("least")?;
-    put_bound(alloc, out, kept.least)?;
+    put_bound(alloc, out, Some(kept.least))?;
     out.key("token")?;
     put_token(alloc, out, &kept.token)?;
     out.end_object()?;

@@ -11,7 +11,7 @@ use Rattle.keeping_up.specs.KeepsUp.{PaidAtLeastWhile, LosesAtMostWhile}
 -- while it keeps up the party is paid at least so much of each of these tokens, and loses at most so much
 abbrev pub KeepsWithin : Party → List Kept → StateMaps → ContractTree → Type 0
 KeepsWithin party all s c =
-    AllByRecursion (λ (k : Kept). IfSome k.least (λ n. PaidAtLeastWhile party k.token n s c) × IfSome k.most (λ n. LosesAtMostWhile party k.token n s c)) all
+    AllByRecursion (λ (k : Kept). PaidAtLeastWhile party k.token k.least s c × IfSome k.most (λ n. LosesAtMostWhile party k.token n s c)) all
 
 -- none of these is of this token
 abbrev pub IsUnnamed : List Kept → Token → Type 0

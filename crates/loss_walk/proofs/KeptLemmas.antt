@@ -18,7 +18,7 @@ use Rattle.contract.specs.States.States.{StateMaps, AllPositive}
 use Rattle.semantics.specs.Walk.{standing}
 use Rattle.semantics.specs.Reduction.{account_of}
 use Rattle.semantics.specs.Naturals.{PaymentsAreNatural, AccountsStayPositive}
-use Rattle.analysis_spec.specs.Runs.{payments_of}
+use Rattle.analysis_spec.specs.Runs.{payments_of, paid_to}
 use Rattle.keeping_up.specs.declared.kept.Kept.{Kept}
 use Rattle.keeping_up.specs.KeepsUp.{PaidAtLeastWhile, LosesAtMostWhile}
 use Rattle.keeping_up.specs.Told.{KeepsWithin, IsUnnamed, OthersAreKept}
@@ -56,6 +56,11 @@ pub floor_for : (asked : List Account) (rows : Rows) (x : Account) (o least : Op
 floor_for asked rows x None least e h = tt
 floor_for asked rows x (Some n) least e h = (h.0, subst (λ (z : Option ℤ). IsUnder z n) e h.1)
 
+-- .. that is never less than 0
+pub least_for : (asked : List Account) (rows : Rows) (x : Account) (n : ℤ) (least : Option ℤ) → least ≡ least_of (find account_cmp x rows) → (n ≤ℤ pos 0) ⊎ (IsOneOf asked x × IsUnder least n) → (n ≤ℤ pos 0) ⊎ IsFloor asked rows x n
+least_for asked rows x n least e (inl h) = inl h
+least_for asked rows x n least e (inr h) = inr (inr h.0, subst (λ (z : Option ℤ). IsUnder z n) e h.1)
+
 -- .. and turned
 pub turned_floor : (asked : List Account) (rows : Rows) (x : Account) (o most : Option ℤ) → IfSome o (IsFloor asked rows x) → IfSome most (λ n. o ≡ Some (neg_ℤ n)) → IfSome most (λ n. IsFloor asked rows x (neg_ℤ n))
 turned_floor asked rows x o None h e = tt
@@ -67,14 +72,14 @@ turned_floor asked rows x o (Some n) h e = subst (λ (z : Option ℤ). IfSome z 
 pub tells_other : (party : Party) (asked : List Account) (paid net : Rows) (x : Account) (all : List Kept) → x.owner ≢ party → TellsOwn party asked paid net x all all
 tells_other party asked paid net x all other = record { kept = λ t h. h; own = λ h. other; told = λ h. h }
 
-pub tells_own : (party : Party) (asked : List Account) (paid net : Rows) (x : Account) (k : Kept) (old new : List Kept) → new ≡ old ++ k ∷ [] → k.token ≡ x.token → x.owner ≡ party → IfSome k.least (IsFloor asked paid x)
+pub tells_own : (party : Party) (asked : List Account) (paid net : Rows) (x : Account) (k : Kept) (old new : List Kept) → new ≡ old ++ k ∷ [] → k.token ≡ x.token → x.owner ≡ party → (k.least ≤ℤ pos 0) ⊎ IsFloor asked paid x k.least
     → IfSome k.most (λ n. IsFloor asked net x (neg_ℤ n)) → TellsOwn party asked paid net x old new
 tells_own party asked paid net x k old new added is of least most = record {
   kept = λ t u. all_left (λ (y : Kept). y.token ≢ t) old (k ∷ []) (subst (λ (ys : List Kept). IsUnnamed ys t) added u);
   own = λ u. absurd ((all_right (λ (y : Kept). y.token ≢ x.token) old (k ∷ []) (subst (λ (ys : List Kept). IsUnnamed ys x.token) added u)).0 is);
   told = λ h.
       subst (AllByRecursion (IsToldBy party asked paid net)) (sym added)
-      (all_append (IsToldBy party asked paid net) old (k ∷ []) h (subst (λ (z : Account). IfSome k.least (IsFloor asked paid z) × IfSome k.most (λ n. IsFloor asked net z (neg_ℤ n))) (sym same) (least, most), tt));
+      (all_append (IsToldBy party asked paid net) old (k ∷ []) h (subst (λ (z : Account). ((k.least ≤ℤ pos 0) ⊎ IsFloor asked paid z k.least) × IfSome k.most (λ n. IsFloor asked net z (neg_ℤ n))) (sym same) (least, most), tt));
 }
   where
     same : account_of party k.token ≡ x
@@ -109,18 +114,24 @@ module _ (party : Party) (asked : List Account) (paid net : Rows) (s : StateMaps
   turned_back : (n : ℤ) → neg_ℤ (neg_ℤ n) ≡ n
   turned_back n = omega (arith, ints)
 
-  at_least : (t : Token) (o : Option ℤ) → IfSome o (IsFloor asked paid (account_of party t)) → IfSome o (λ n. PaidAtLeastWhile party t n s c)
-  at_least t None h = tt
-  at_least t (Some n) h = pays t n h
+  no_more : (m n k : ℤ) → m ≤ℤ n → n ≤ℤ k → m ≤ℤ k
+  no_more m n k p q = omega (arith, ints, p, q)
+
+  paid_anyway : PaymentsAreNatural → AccountsStayPositive → AllPositive (entries s.accounts) → (t : Token) → PaidAtLeastWhile party t (pos 0) s c
+  paid_anyway N A above t ts spent keeps = natural_paid party t (payments_of (standing s c) ts) (natural_run N A (standing s c) ts above)
+
+  at_least : PaymentsAreNatural → AccountsStayPositive → AllPositive (entries s.accounts) → (t : Token) (n : ℤ) → (n ≤ℤ pos 0) ⊎ IsFloor asked paid (account_of party t) n → PaidAtLeastWhile party t n s c
+  at_least N A above t n (inl h) ts spent keeps = no_more n (pos 0) (paid_to party t (payments_of (standing s c) ts)) h (paid_anyway N A above t ts spent keeps)
+  at_least N A above t n (inr h) = pays t n h
 
   at_most : (t : Token) (o : Option ℤ) → IfSome o (λ n. IsFloor asked net (account_of party t) (neg_ℤ n)) → IfSome o (λ n. LosesAtMostWhile party t n s c)
   at_most t None h = tt
   at_most t (Some n) h = subst (λ (m : ℤ). LosesAtMostWhile party t m s c) (turned_back n) (nets t (neg_ℤ n) h)
 
-  pub keeps_within : (all : List Kept) → AllByRecursion (IsToldBy party asked paid net) all → KeepsWithin party all s c
-  keeps_within all h =
-      all_weaker (IsToldBy party asked paid net) (λ (k : Kept). IfSome k.least (λ n. PaidAtLeastWhile party k.token n s c) × IfSome k.most (λ n. LosesAtMostWhile party k.token n s c))
-      (λ k f. (at_least k.token k.least f.0, at_most k.token k.most f.1)) all h
+  pub keeps_within : PaymentsAreNatural → AccountsStayPositive → AllPositive (entries s.accounts) → (all : List Kept) → AllByRecursion (IsToldBy party asked paid net) all → KeepsWithin party all s c
+  keeps_within N A above all h =
+      all_weaker (IsToldBy party asked paid net) (λ (k : Kept). PaidAtLeastWhile party k.token k.least s c × IfSome k.most (λ n. LosesAtMostWhile party k.token n s c))
+      (λ k f. (at_least N A above k.token k.least f.0, at_most k.token k.most f.1)) all h
 
   no_loss : neg_ℤ (pos 0) ≡ pos 0
   no_loss = omega (arith, ints)
@@ -130,7 +141,7 @@ module _ (party : Party) (asked : List Account) (paid net : Rows) (s : StateMaps
 
   pub others_are_kept : PaymentsAreNatural → AccountsStayPositive → AllPositive (entries s.accounts) → (all : List Kept) → TellsAllOf party net all → OthersAreKept party all s c
   others_are_kept N A above all h t u = (
-    λ ts spent keeps. natural_paid party t (payments_of (standing s c) ts) (natural_run N A (standing s c) ts above),
+    paid_anyway N A above t,
     subst (λ (m : ℤ). LosesAtMostWhile party t m s c) no_loss
         (nets t (pos 0) (inl (le_itself (pos 0)), subst (λ (o : Option Floor). IsUnder (least_of o) (pos 0)) (sym (h t u)) (le_itself (pos 0)))),
   )

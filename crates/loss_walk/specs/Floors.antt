@@ -142,10 +142,10 @@ NameAll rows losses = (p : Party) (t : Token) → IsUnnamed losses p t → IsFlo
 abbrev pub RowsHoldWhile : Bool → Party → List Account → Rows → StateMaps → ContractTree → Type 0
 RowsHoldWhile net party asked rows s c = (t : Token) (n : ℤ) → IsFloor asked rows (account_of party t) n → HoldsWhile net party t n s c
 
--- each of these is told by such rows: what is paid at least, and what is lost at most
+-- each of these is told by such rows: what is paid at least, unless it is 0 or less, and what is lost at most
 abbrev pub IsToldBy : Party → List Account → Rows → Rows → Kept → Type 0
 IsToldBy party asked paid net k =
-    IfSome k.least (IsFloor asked paid (account_of party k.token)) × IfSome k.most (λ n. IsFloor asked net (account_of party k.token) (neg_ℤ n))
+    ((k.least ≤ℤ pos 0) ⊎ IsFloor asked paid (account_of party k.token) k.least) × IfSome k.most (λ n. IsFloor asked net (account_of party k.token) (neg_ℤ n))
 
 -- who isn't told has no row
 abbrev pub TellsAllOf : Party → Rows → List Kept → Type 0

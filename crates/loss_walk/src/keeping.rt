@@ -137,7 +137,7 @@ fn put_own(
     if !is_party(&account.owner, party) {
         return Ok(());
     }
-    let least = floor_for(asked, account, least_of(paid.get(account)));
+    let least = least_for(asked, account, least_of(paid.get(account)));
     let floor = floor_for(asked, account, least_of(net.get(account)));
     let most = turned(floor);
     all.push(Kept {
@@ -146,6 +146,19 @@ fn put_own(
         most,
     })?;
     Ok(())
+}
+
+// What is paid at least, as it is told: the floor of a row, or 0 where that is less or isn't known.
+fn least_for(asked: &[Account], account: &Account, least: Option<i128>) -> i128
+    ensures { (result ≤ℤ pos 0) ⊎ (IsOneOf asked.now account.now × IsUnder least result) }
+{
+    match least {
+        Some(least) => {
+            let floor = at_most(asked, account, least);
+            if floor > 0 { floor } else { 0 }
+        }
+        None => 0,
+    }
 }
 
 // The floor of a row, as it is told.

@@ -12,7 +12,6 @@ use Rattle.analysis_spec.specs.declared.kind.AlarmKind.TheVariants.{Leaves128}
 use Rattle.analysis_spec.specs.declared.alarm.Alarm.{Alarm}
 use Rattle.analysis_spec.specs.Analysed.{IsSilent, NamesWhatComes, NamesWhereItComes, StaysUnlessTold, NamesWhereItLeaves, AreNeverReached}
 use Rattle.analysis_spec.specs.declared.path.PathStep.{PathStep}
-use Rattle.analysis_spec.specs.Promises.{StaysWithin128}
 use Rattle.losses.specs.declared.loss.Loss.{Loss}
 use Rattle.bound_runs.specs.declared.shown.ShownRange.{ShownRange}
 use Rattle.bound_runs.specs.declared.shown.ShownLoss.{ShownLoss}
@@ -96,10 +95,10 @@ module _ (c : ContractTree) (all : Alarms) (alarms told : List ToldAlarm) (seen 
   }
   heads_once false h = record { found = []; heads = refl; lines = ap (map line_of) h ∙ lines ∙ sym (no_heads (map (line_at c) all)) }
 
-pub tells_of_tree : (telling : Telling) (given : Bool) (s : StateMaps) (c : ContractTree) (alarms : List Alarm) (places : List (List PathStep)) (ranges : List ShownRange) (time : Option (Option ℤ)) (losses : Option (List ShownLoss)) (told once : List ToldAlarm) (ways : List (List Key)) (clear unreached : Bool) (out : List ℕ)
+pub tells_of_tree : (telling : Telling) (given : Bool) (s : StateMaps) (c : ContractTree) (alarms : List Alarm) (places : List (List PathStep)) (ranges : List ShownRange) (time : Option (Option ℤ)) (losses : Option (List ShownLoss)) (told once : List ToldAlarm) (ways : List (List Key)) (clear unreached stays : Bool) (out : List ℕ)
     → NamesWhereItComes alarms s c → NamesWhereItLeaves alarms s c → NamesWhatComes alarms s c → StaysUnlessTold alarms s c → AreNeverReached places s c → HoldRanges s c (ranges_of ranges) → LeastsCanCome (ranges_of ranges) s c → AreReached s c ranges → IsOut s c alarms time → AreLosses s c alarms (option_map losses_of losses) → IfSome losses (AreLost s c) → TellsAll s c alarms told → ToldOnce (not (telling.tools || telling.all)) c told once → TellPlaces places ways
-    → (clear ≡ true ↔ told ≡ []) → (unreached ≡ false ↔ ways ≡ []) → out ≡ printed telling given s c (map line_of once) ways ranges time losses → TellsOfTree telling given s c clear unreached out
-tells_of_tree telling given s c alarms places ranges time losses told once ways clear unreached out comes leaves names stays never hold leasts reach z y lost t o w k l e =
+    → (clear ≡ true ↔ told ≡ []) → (unreached ≡ false ↔ ways ≡ []) → (stays ≡ false → IsSilent alarms Leaves128 → ⊥) → out ≡ printed telling given s c (map line_of once) ways ranges time losses → TellsOfTree telling given s c clear unreached stays out
+tells_of_tree telling given s c alarms places ranges time losses told once ways clear unreached stays out comes leaves names numbers never hold leasts reach z y lost t o w k l some e =
     let all = t.all in
     let x = heads_once c all told once t.so.seen t.so.lines (not (telling.tools || telling.all)) o in (
       all,
@@ -112,7 +111,7 @@ tells_of_tree telling given s c alarms places ranges time losses told once ways 
         comes = λ kind place z. comes kind place (fewer (λ (a : Alarm). a.kind ≡ kind → a.place ≢ place) (without_runs all) alarms t.has z);
         leaves = λ place z. leaves place (fewer (λ (a : Alarm). a.kind ≡ Leaves128 → a.place ≢ place) (without_runs all) alarms t.has z);
         warnings = λ kind z. names kind (fewer (λ (a : Alarm). a.kind ≢ kind) (without_runs all) alarms t.has z);
-        numbers = λ z. stays (fewer (λ (a : Alarm). a.kind ≢ Leaves128) (without_runs all) alarms t.has z);
+        numbers = λ z. numbers (fewer (λ (a : Alarm). a.kind ≢ Leaves128) (without_runs all) alarms t.has z);
         ordered = t.ordered;
         runs = t.so.ends;
         unreached = never_among s c places w.all never w.among;
@@ -129,48 +128,40 @@ tells_of_tree telling given s c alarms places ranges time losses told once ways 
       e ∙ (ap (λ (ls : List Line). printed telling given s c ls ways ranges time losses) x.lines ∙ ap (λ (ks : List (List Key)). printed telling given s c (with_heads (map (line_at c) all) x.found) ks ranges time losses) w.keys),
       (λ h. same_empty line_of (line_at c) told all t.so.lines (k.0 h), λ h. k.1 (same_empty (line_at c) line_of all told (sym t.so.lines) h)),
       (λ h. none_mapped path_keys w.all (sym w.keys ∙ l.0 h), λ h. l.1 (w.keys ∙ ap (map path_keys) h)),
+      λ h z. some h (fewer (λ (a : Alarm). a.kind ≢ Leaves128) (without_runs all) alarms t.has z),
     )
 
-no_alarms : (telling : Telling) (given : Bool) (s : StateMaps) (c : ContractTree) (clear unreached : Bool) (out : List ℕ) → TellsOfTree telling given s c clear unreached out → clear ≡ true → NeverAlarms s c
-no_alarms telling given s c clear unreached out h e =
+no_alarms : (telling : Telling) (given : Bool) (s : StateMaps) (c : ContractTree) (clear unreached stays : Bool) (out : List ℕ) → TellsOfTree telling given s c clear unreached stays out → clear ≡ true → NeverAlarms s c
+no_alarms telling given s c clear unreached stays out h e =
     let none : (kind : AlarmKind) → IsSilent (without_runs h.0) kind = λ kind. subst (λ (found : Alarms). IsSilent (without_runs found) kind) (sym (h.11.0 e)) tt in
     (λ kind. h.6.warnings kind (none kind), h.6.numbers (none Leaves128))
 
 pub never_alarms : (telling : Telling) (party : Option Party) (given : Bool) (s : StateMaps) (c : ContractTree) (clear unreached : Bool) (out : List ℕ) → TellsFor telling party given s c clear unreached out → clear ≡ true → NeverAlarms s c
-never_alarms telling None given s c clear unreached out h e = no_alarms telling given s c clear unreached out h e
-never_alarms telling (Some party) given s c clear unreached out h e = no_alarms telling given s c clear unreached h.text h.tells e
+never_alarms telling None given s c clear unreached out h e = no_alarms telling given s c clear unreached h.0 out h.1 e
+never_alarms telling (Some party) given s c clear unreached out h e = no_alarms telling given s c clear unreached h.stays h.text h.tells e
 
--- where nothing is told no number leaves 128 bits
-pub none_leave : (s : StateMaps) (c : ContractTree) (alarms : List Alarm) (told : List ToldAlarm) (clear leaves : Bool) → TellsAll s c alarms told → (clear ≡ true ↔ told ≡ []) → (leaves ≡ true → IsSilent alarms Leaves128 → ⊥) → clear ≡ true → not leaves ≡ true
-none_leave s c alarms told clear false t k some e = refl
-none_leave s c alarms told clear true t k some e =
-    let none : without_runs t.all ≡ [] = ap without_runs (same_empty line_of (line_at c) told t.all t.so.lines (k.0 e)) in
-    let silent : IsSilent (without_runs t.all) Leaves128 = subst (λ (found : List Alarm). IsSilent found Leaves128) (sym none) tt in
-    absurd (some refl (fewer (λ (a : Alarm). a.kind ≢ Leaves128) (without_runs t.all) alarms t.has silent))
-
-pub stays_within : (s : StateMaps) (c : ContractTree) (alarms : List Alarm) (leaves : Bool) → StaysUnlessTold alarms s c → (leaves ≡ false → IsSilent alarms Leaves128) → not leaves ≡ true → StaysWithin128 s c
-stays_within s c alarms false stays none e = stays (none refl)
-stays_within s c alarms true stays none e = absurd (cc)
+-- what doesn't stay leaves
+pub leaves_so : (alarms : List Alarm) (leaves : Bool) → (leaves ≡ true → IsSilent alarms Leaves128 → ⊥) → not leaves ≡ false → IsSilent alarms Leaves128 → ⊥
+leaves_so alarms false some e = absurd (cc)
+leaves_so alarms true some e = some refl
 
 -- what is printed for a party
 pub tells_of_party : (telling : Telling) (given : Bool) (asked : Option Party) (party : Party) (s : StateMaps) (c : ContractTree) (told : Analysed) (kept : Option (List Kept)) (r : Result Analysed AllocError)
-    → asked ≡ Some party → TellsOfTree telling given s c told.is_clear told.has_unreached told.text.items → (told.stays ≡ true → StaysWithin128 s c) → (told.is_clear ≡ true → told.stays ≡ true) → IsSureFor asked s c told.stays kept
+    → asked ≡ Some party → TellsOfTree telling given s c told.is_clear told.has_unreached told.stays told.text.items → IsSureFor asked s c told.stays kept
     → IfOk r (λ w. (w.text.items ≡ with_kept telling.tools given party kept told.text.items) × (w.is_clear ≡ told.is_clear) × (w.has_unreached ≡ told.has_unreached))
     → IfOk r (λ w. TellsFor telling asked given s c w.is_clear w.has_unreached w.text.items)
-tells_of_party telling given asked party s c told kept (Err e) is tells within silent sure h = tt
-tells_of_party telling given asked party s c told kept (Ok w) is tells within silent sure (text, clear, unreached) =
+tells_of_party telling given asked party s c told kept (Err e) is tells sure h = tt
+tells_of_party telling given asked party s c told kept (Ok w) is tells sure (text, clear, unreached) =
     let so : TellsFor telling (Some party) given s c w.is_clear w.has_unreached w.text.items = record {
       text = told.text.items;
-      tells = subst (λ (b : Bool). TellsOfTree telling given s c b w.has_unreached told.text.items) (sym clear) (subst (λ (b : Bool). TellsOfTree telling given s c told.is_clear b told.text.items) (sym unreached) tells);
       stays = told.stays;
-      within = within;
-      silent = λ e. silent (sym clear ∙ e);
+      tells = subst (λ (b : Bool). TellsOfTree telling given s c b w.has_unreached told.stays told.text.items) (sym clear) (subst (λ (b : Bool). TellsOfTree telling given s c told.is_clear b told.stays told.text.items) (sym unreached) tells);
       kept = kept;
       sure = subst (λ (p : Option Party). IsSureFor p s c told.stays kept) is sure;
       is = text;
     } in
     subst (λ (p : Option Party). TellsFor telling p given s c w.is_clear w.has_unreached w.text.items) (sym is) so
 
-pub tells_of_none : (telling : Telling) (given : Bool) (asked : Option Party) (s : StateMaps) (c : ContractTree) (told : Analysed) → asked ≡ None → TellsOfTree telling given s c told.is_clear told.has_unreached told.text.items
+pub tells_of_none : (telling : Telling) (given : Bool) (asked : Option Party) (s : StateMaps) (c : ContractTree) (told : Analysed) → asked ≡ None → TellsOfTree telling given s c told.is_clear told.has_unreached told.stays told.text.items
     → TellsFor telling asked given s c told.is_clear told.has_unreached told.text.items
-tells_of_none telling given asked s c told is tells = subst (λ (p : Option Party). TellsFor telling p given s c told.is_clear told.has_unreached told.text.items) (sym is) tells
+tells_of_none telling given asked s c told is tells = subst (λ (p : Option Party). TellsFor telling p given s c told.is_clear told.has_unreached told.text.items) (sym is) (told.stays, tells)

@@ -3,7 +3,6 @@ use Rattle.std.specs.Prelude.{◌≡◌, ℕ, Bool, true, false, List, is_some, 
 use Rattle.contract.specs.Names.declared.party.Party.{Party}
 use Rattle.contract.specs.Tree.{ContractTree}
 use Rattle.contract.specs.States.States.{StateMaps}
-use Rattle.analysis_spec.specs.Promises.{StaysWithin128}
 use Rattle.keeping_up.specs.declared.kept.Kept.{Kept}
 use Rattle.keeping_up.specs.Told.{KeepsWithin, OthersAreKept}
 use Rattle.analysis_lines.specs.Kept.{with_kept}
@@ -11,7 +10,7 @@ use Rattle.marlowe_run.specs.declared.readable.Readable.{Readable}
 use Rattle.marlowe_analyse.specs.declared.analysed.Telling.{Telling}
 use Rattle.marlowe_analyse.specs.Printed.{IsReadAs, TellsOfTree}
 
--- what the party is sure of of each token, and of those that aren't named; it isn't told where a number may leave 128 bits
+-- what the party is sure of of each token, and of those that aren't named; it is told where no number may leave 128 bits, and not elsewhere
 abbrev pub IsSure : Party → StateMaps → ContractTree → Bool → Option (List Kept) → Type 0
 IsSure party s c true kept = (all : List Kept) × (kept ≡ Some all) × KeepsWithin party all s c × OthersAreKept party all s c
 IsSure party s c false kept = kept ≡ None
@@ -24,17 +23,15 @@ IsSureFor (Some party) s c stays kept = IsSure party s c stays kept
 -- what is printed without it, and with it
 pub record TellsOfParty (telling : Telling) (party : Party) (given : Bool) (s : StateMaps) (c : ContractTree) (clear unreached : Bool) (out : List ℕ) : Type 0 where
   pub text : List ℕ
-  pub tells : TellsOfTree telling given s c clear unreached text
   pub stays : Bool
-  pub within : stays ≡ true → StaysWithin128 s c
-  pub silent : clear ≡ true → stays ≡ true
+  pub tells : TellsOfTree telling given s c clear unreached stays text
   pub kept : Option (List Kept)
   pub sure : IsSure party s c stays kept
   pub is : out ≡ with_kept telling.tools given party kept text
 
 -- .. where a party is asked about
 abbrev pub TellsFor : Telling → Option Party → Bool → StateMaps → ContractTree → Bool → Bool → List ℕ → Type 0
-TellsFor telling None given s c clear unreached out = TellsOfTree telling given s c clear unreached out
+TellsFor telling None given s c clear unreached out = (stays : Bool) × TellsOfTree telling given s c clear unreached stays out
 TellsFor telling (Some party) given s c clear unreached out = TellsOfParty telling party given s c clear unreached out
 
 -- .. of those that the texts are read as

@@ -2,7 +2,6 @@
 ghost use Rattle.std.specs.Prelude.{◌≡◌, true, not, ◌||◌, map, All, IfOk, IfSome};
 ghost use Rattle.contract.specs.Collections.Answers.{AsideBy};
 ghost use Rattle.contract.specs.Tree.{contract_tree};
-ghost use Rattle.analysis_spec.specs.Promises.{StaysWithin128};
 ghost use Rattle.marlowe_run.specs.Start.{start_of};
 ghost use Rattle.bound_runs.specs.Told.{RangeHasNumbers, LossHasNumbers};
 ghost use Rattle.analysis_lines.specs.ToldLines.{line_of, LineFits};
@@ -203,9 +202,7 @@ fn all_told(
     party: &Option<Party>,
 ) -> Result<(Analysed, Option<Items<Kept>>), Memory>
     ensures told { IfOk result (λ r.
-        TellsOfTree telling given state.now (contract_tree contract.now) r.0.is_clear r.0.has_unreached r.0.text.items) }
-    ensures within { IfOk result (λ r. r.0.stays ≡ true → StaysWithin128 state.now (contract_tree contract.now)) }
-    ensures silent { IfOk result (λ r. r.0.is_clear ≡ true → r.0.stays ≡ true) }
+        TellsOfTree telling given state.now (contract_tree contract.now) r.0.is_clear r.0.has_unreached r.0.stays r.0.text.items) }
     ensures kept { IfOk result (λ r. IsSureFor party.now state.now (contract_tree contract.now) r.0.stays r.1) }
 {
     let Analysis {

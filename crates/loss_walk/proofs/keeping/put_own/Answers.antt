@@ -1,6 +1,6 @@
 use Rattle.std.proofs.Common.{ap, ◌∙◌}
 use Rattle.loss_walk.specs.Floors.{least_of}
-use Rattle.loss_walk.proofs.KeptLemmas.{owner_apart, owner_same, floor_for, turned_floor, tells_other, tells_own}
+use Rattle.loss_walk.proofs.KeptLemmas.{owner_apart, owner_same, floor_for, least_for, turned_floor, tells_other, tells_own}
 use Rattle.loss_walk.proofs.keeping.put_own.Goals as goal
 
 pub returns-then-not-is_party : goal.returns-then-not-is_party
@@ -11,7 +11,7 @@ pub returns : goal.returns
 returns c =
     let asked = c.args.asked.now in
     let x = c.args.account.now in
-    let least = floor_for asked c.args.paid.now x c.floor_for-least.result c.least_of.result (c.least_of.ensures ∙ ap least_of c.get.ensures.value) c.floor_for-least.ensures in
+    let least = least_for asked c.args.paid.now x c.least_for-least.result c.least_of.result (c.least_of.ensures ∙ ap least_of c.get.ensures.value) c.least_for-least.ensures in
     let floor = floor_for asked c.args.net.now x c.floor_for-floor.result c.least_of-2.result (c.least_of-2.ensures ∙ ap least_of c.get-2.ensures.value) c.floor_for-floor.ensures in
     tells_own c.args.party.now asked c.args.paid.now c.args.net.now x _ c.args.all.now c.push.new.self c.in_ok-push.ensures.added c.in_ok-try_clone.ensures
     (owner_same x.owner c.args.party.now c.is_party.result c.is_party.ensures c.if-not-is_party.false) least
