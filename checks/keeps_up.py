@@ -132,7 +132,7 @@ def cut(contract, start):
         if has(c, "when"):
             if asks(c) and timeless and latest < c["timeout"]:
                 found.append(c)
-            todo += [(case["then"], c["timeout"], True) for case in c["when"]]
+            todo += [(case["then"], c["timeout"] - 1, True) for case in c["when"]]
             todo.append((c["timeout_continuation"], max(latest, c["timeout"]), timeless))
             continue
         read = next((c[key] for key in ("pay", "if", "be") if key in c), None)

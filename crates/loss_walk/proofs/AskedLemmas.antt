@@ -31,7 +31,7 @@ use Rattle.analysis_values.proofs.AccountLaws.{sum_natural, refunded_is}
 use Rattle.semantics.proofs.Integers.{true_lt}
 use Rattle.analysis_steps.proofs.AmountLemmas.{paid_natural, paid_up}
 use Rattle.loss_walk.specs.declared.quiet.Quiet.{Quiet}
-use Rattle.loss_walk.specs.Cuts.{is_timeless, holds_timeless, quiet_from, after_reading, after_timeout}
+use Rattle.loss_walk.specs.Cuts.{is_timeless, holds_timeless, quiet_from, quiet_before, after_reading, after_timeout}
 use Rattle.loss_walk.specs.Nets.{Nets, NetsCases, of_all_runs, NetsBoundLosses}
 use Rattle.loss_walk.specs.Asked.{is_beyond, waits_beyond, asks_beyond, ask_beyond}
 
@@ -179,7 +179,7 @@ module _ (party : Party) (token : Token) where
           (λ q. kept next i s m c h k (left (asks_beyond o c) (asks_beyond o d) e), λ q. kept next i s m d h k (right (asks_beyond o c) (asks_beyond o d) e))
       kept w i s m (when ks t c) h k e =
           λ j now g v. (
-            λ q. kept_cases (quiet_from t) j (record s { min_time = now }) m [] ks h k (left (ask_beyond o ks) (asks_beyond o c) e),
+            λ q. kept_cases (quiet_before t) j (record s { min_time = now }) m [] ks h k (left (ask_beyond o ks) (asks_beyond o c) e),
             λ cut q. kept (after_timeout w t) j (record s { min_time = now }) m c h k (right (ask_beyond o ks) (asks_beyond o c) e),
           )
       kept w i s m (let_be x v c) h k e = kept (after_reading w (is_timeless v)) i (binding s x (eval i s v) (visited i s v) c).state m c h k e

@@ -32,7 +32,7 @@ use Rattle.analysis_walk.proofs.PaidLaws.{total_append}
 use Rattle.analysis_values.specs.Known.{Known, IsDescribed}
 use Rattle.loss_walk.specs.declared.question.Question.{Question}
 use Rattle.loss_walk.specs.declared.quiet.Quiet.{Quiet}
-use Rattle.loss_walk.specs.Cuts.{is_timeless, holds_timeless, quiet_from, after_reading, after_timeout, is_cut}
+use Rattle.loss_walk.specs.Cuts.{is_timeless, holds_timeless, quiet_from, quiet_before, after_reading, after_timeout, is_cut}
 use Rattle.loss_walk.specs.Nets.{Nets, NetsCases, NetsFrom, of_all_runs, while_keeping_up, NetsBoundLosses, NetsBoundKept}
 use Rattle.loss_walk.specs.Brings.{TakesOff, Takes}
 use Rattle.loss_walk.specs.Floors.{Rows, IsFloor, Shown, Finds, FindsAll, Nothing, ClosesAbove, IsCovered, AreCovered, CoversIf, CoversCasesIf, CoversEachIf, CoversCase, CoversBehind, CoversIndex, AreFloors, NameAll, RowsHoldWhile}
@@ -138,7 +138,7 @@ module _ (question : Question) (q : Quiet) where
   CoversOver l ks t c a n =
       is_cut question.keeper q ks t ≡ false → (i : Interval) (s : StateMaps) (ps : List Payment) → IsDescribed any_runs l i s ps → t ≤ℤ i.from → Nets question a.owner a.token n (after_timeout q t) i s (paid_to a.owner a.token ps) c
 
-  when_covered : (a : Account) (n : ℤ) (k l : Known) (ks : CaseTrees) (t : ℤ) (c : ContractTree) (o : Option Known) (first : Quiet) → IsLater IsDescribed k l → WaitsSo IsDescribed l t o → first ≡ quiet_from t → CoversCasesIf question first o ks a n
+  when_covered : (a : Account) (n : ℤ) (k l : Known) (ks : CaseTrees) (t : ℤ) (c : ContractTree) (o : Option Known) (first : Quiet) → IsLater IsDescribed k l → WaitsSo IsDescribed l t o → first ≡ quiet_before t → CoversCasesIf question first o ks a n
       → CoversOver l ks t c a n → IsCovered question q k (when ks t c) a n
   when_covered a n k l ks t c o first later waits is go end i s ps d j now g v =
       let s2 : StateMaps = record s { min_time = now } in
@@ -152,7 +152,7 @@ module _ (question : Question) (q : Quiet) where
 
   -- it isn't cut: with what is known behind the timeout
   pub when_found : (k l : Known) (ks : CaseTrees) (t : ℤ) (c : ContractTree) (o u : Option Known) (first next : Quiet) (f g h : Rows) → IsLater IsDescribed k l → WaitsSo IsDescribed l t o → TimesOutSo IsDescribed l t u
-      → first ≡ quiet_from t → next ≡ after_timeout q t → Finds question.asked (CoversIf question next u c) f g → Finds question.asked (CoversCasesIf question first o ks) g h → Finds question.asked (IsCovered question q k (when ks t c)) f h
+      → first ≡ quiet_before t → next ≡ after_timeout q t → Finds question.asked (CoversIf question next u c) f g → Finds question.asked (CoversCasesIf question first o ks) g h → Finds question.asked (IsCovered question q k (when ks t c)) f h
   when_found k l ks t c o u first next f g h later waits out is over end go a n fit =
       let y = go a n fit in
       let x = end a n y.0 in (
@@ -164,14 +164,14 @@ module _ (question : Question) (q : Quiet) where
       )
 
   -- it is cut
-  pub cut_found : (k l : Known) (ks : CaseTrees) (t : ℤ) (c : ContractTree) (o : Option Known) (first : Quiet) (f g : Rows) → IsLater IsDescribed k l → WaitsSo IsDescribed l t o → first ≡ quiet_from t
+  pub cut_found : (k l : Known) (ks : CaseTrees) (t : ℤ) (c : ContractTree) (o : Option Known) (first : Quiet) (f g : Rows) → IsLater IsDescribed k l → WaitsSo IsDescribed l t o → first ≡ quiet_before t
       → is_cut question.keeper q ks t ≡ true → Finds question.asked (CoversCasesIf question first o ks) f g → Finds question.asked (IsCovered question q k (when ks t c)) f g
   cut_found k l ks t c o first f g later waits is cut go a n fit =
       let y = go a n fit in
       (y.0, when_covered a n k l ks t c o first later waits is y.1 (λ kept i s ps d b. absurd (let z : true ≡ false = sym cut ∙ kept in cc)))
 
 -- Close after the timeout, with what is known before it
-pub closed_found : (question : Question) (q : Quiet) (k l : Known) (ks : CaseTrees) (t : ℤ) (c : ContractTree) (o : Option Known) (first : Quiet) (f g h : Rows) → IsLater IsDescribed k l → WaitsSo IsDescribed l t o → first ≡ quiet_from t → c ≡ close
+pub closed_found : (question : Question) (q : Quiet) (k l : Known) (ks : CaseTrees) (t : ℤ) (c : ContractTree) (o : Option Known) (first : Quiet) (f g h : Rows) → IsLater IsDescribed k l → WaitsSo IsDescribed l t o → first ≡ quiet_before t → c ≡ close
     → Finds question.asked (ClosesAbove l) f g → Finds question.asked (CoversCasesIf question first o ks) g h → Finds question.asked (IsCovered question q k (when ks t c)) f h
 closed_found question q k l ks t c o first f g h later waits is e end go =
     when_found question q k l ks t c o (Some l) first (after_timeout q t) f g h later waits (λ scope i s ps d b. d) is refl (close_found question (after_timeout q t) c l f g e end) go

@@ -203,12 +203,17 @@ module _ (keeper : Option Party) where
           by_test true e h = below a b c e h
           by_test false e h = h
 
-  -- behind an input: no moment is so late
-  pub keeps_behind : (q : Quiet) (i : Interval) (s : StateMaps) (c : ContractTree) → i.from <ℤ q.latest → KeepsBehind q i s c
-  keeps_behind q i s c late w is timeless now g l = absurd (never q.latest now i.from g l late)
+  -- behind an input: no moment is so late but its own, and what waits then waits up to a later time
+  pub keeps_behind : (q : Quiet) (i : Interval) (s : StateMaps) (c : ContractTree) → i.from ≤ℤ q.latest → KeepsBehind q i s c
+  keeps_behind q i s c late w is timeless now g l =
+      if_waits (waits_at w now (standing s c)) (λ time waits. no_later q.latest now i.from time g late (waits_longer w (record { from = now; to = now }) time (record s { min_time = now }) c waits))
     where
-      never : (a b c : ℤ) → a ≤ℤ b → b ≤ℤ c → c <ℤ a → ⊥
-      never a b c h k l = omega (arith, ints)
+      if_waits : (o : Option ℤ) → ((time : ℤ) → o ≡ Some time → i.from <ℤ time) → IfSome o (λ time. i.from <ℤ time)
+      if_waits None f = tt
+      if_waits (Some time) f = f time refl
+
+      no_later : (a b c d : ℤ) → a ≤ℤ b → c ≤ℤ a → b <ℤ d → c <ℤ d
+      no_later a b c d h k l = omega (arith, ints)
 
   cut_means : (o : Option Party) (q : Quiet) (ks : CaseTrees) (t : ℤ) → is_cut o q ks t ≡ true → (p : Party) × (o ≡ Some p) × (asks_for p ks ≡ true) × (q.timeless ≡ true) × (q.latest <ℤ t)
   cut_means None q ks t h = absurd (cc)

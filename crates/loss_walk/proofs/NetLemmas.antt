@@ -37,7 +37,7 @@ use Rattle.analysis_walk.proofs.PaidLaws.{total_append}
 use Rattle.keeping_up.specs.KeepsUp.{waits_at, IsInTime, KeepsUp}
 use Rattle.loss_walk.specs.declared.question.Question.{Question}
 use Rattle.loss_walk.specs.declared.quiet.Quiet.{Quiet}
-use Rattle.loss_walk.specs.Cuts.{is_timeless, holds_timeless, quiet_from, after_reading, after_timeout, is_cut}
+use Rattle.loss_walk.specs.Cuts.{is_timeless, holds_timeless, quiet_from, quiet_before, after_reading, after_timeout, is_cut}
 use Rattle.loss_walk.specs.Nets.{taken_off, Nets, NetsCases, NetsFrom, of_all_runs, while_keeping_up, NetsBoundLosses, NetsBoundKept}
 use Rattle.loss_walk.proofs.KeepLemmas.{Keeps, KeepsBehind, waits_longer, keeps_pay, keeps_let, keeps_if, keeps_timeout, keeps_behind, never_left}
 
@@ -104,6 +104,12 @@ joins x m k w v u e q = omega (arith, ints, e, q)
 first_below : (a b c : ℤ) → a ≤ℤ b → b <ℤ c → a <ℤ c
 first_below a b c h k = omega (arith, ints)
 
+first_within : (a b c : ℤ) → a ≤ℤ b → b ≤ℤ c → a ≤ℤ c
+first_within a b c h k = omega (arith, ints)
+
+last_before : (a b : ℤ) → a <ℤ b → a ≤ℤ (b -ℤ pos 1)
+last_before a b h = omega (arith, ints)
+
 max_before : (a b : ℤ) → a ≤ℤ int_max a b
 max_before a b = by_test (int_lt b a) refl
   where
@@ -169,7 +175,7 @@ module _ (question : Question) (party : Party) (token : Token) (floor : ℤ) whe
 
   -- a contract is about to settle behind an input
   abbrev Ready : Interval → Where
-  Ready i a m = (q : Quiet) × Nets question party token floor q i a.state m a.contract × (i.to <ℤ q.latest)
+  Ready i a m = (q : Quiet) × Nets question party token floor q i a.state m a.contract × (i.to ≤ℤ q.latest)
 
   -- a contract is between two transactions: it settles well, if who keeps up has done so
   abbrev StandsAt : StateMaps → ℤ → ContractTree → Type 0
@@ -259,7 +265,7 @@ module _ (question : Question) (party : Party) (token : Token) (floor : ℤ) whe
 
   -- ---- an input
 
-  tries : (q : Quiet) (i : Interval) → i.to <ℤ q.latest → (s : StateMaps) (m : ℤ) (x : Input) (earlier : List ActionTree) → NoneTakes i s x earlier → (ks : CaseTrees) → NetsCases question party token floor q i s m earlier ks → (ns : List ℤ) (n : ℕ)
+  tries : (q : Quiet) (i : Interval) → i.to ≤ℤ q.latest → (s : StateMaps) (m : ℤ) (x : Input) (earlier : List ActionTree) → NoneTakes i s x earlier → (ks : CaseTrees) → NetsCases question party token floor q i s m earlier ks → (ns : List ℤ) (n : ℕ)
       → Fine (Ready i) (m -ℤ off x) (take_match s x ns n (first_match i s x (case_list ks)))
   tries q i b s m x earlier z no_cases h ns n = λ d y e l. absurd (cc)
   tries q i l s m x earlier z (case_then a c ks) h ns n = by_match (matches i s x a) refl (λ e. tries q i l s m x (a ∷ earlier) (e, z) ks h.1 ns n)
@@ -274,7 +280,7 @@ module _ (question : Question) (party : Party) (token : Token) (floor : ℤ) whe
   at_rest : (i : Interval) → i.from ≤ℤ i.to → (s : StateMaps) (m : ℤ) (c : ContractTree) (x : Input) → RestsAt i s m c
       → Fine (Ready i) (m -ℤ off x) (take_match s x (tried_to_match i s x (waits_for c)) (first_match_index i s x (waits_for c)) (first_match i s x (waits_for c)))
   at_rest i v s m close x r = λ d y e q. absurd (cc)
-  at_rest i v s m (when ks t c) x r = tries (quiet_from t) i r.2 s m x [] tt ks ((r.1 i s.min_time (le_itself i.from) v).0 r.2) (tried_to_match i s x (case_list ks)) (first_match_index i s x (case_list ks))
+  at_rest i v s m (when ks t c) x r = tries (quiet_before t) i (last_before i.to t r.2) s m x [] tt ks ((r.1 i s.min_time (le_itself i.from) v).0 r.2) (tried_to_match i s x (case_list ks)) (first_match_index i s x (case_list ks))
   at_rest i v s m (pay p y t n c) x r = absurd r
   at_rest i v s m (if_obs o c d) x r = absurd r
   at_rest i v s m (let_be y n c) x r = absurd r
@@ -290,7 +296,7 @@ module _ (question : Question) (party : Party) (token : Token) (floor : ℤ) whe
       fine_same (Rests i) (n -ℤ pos 0) n (then_walk (applied i x b) (λ d. settled i d.state d.contract)) (sym (less_nothing n))
       (fine_then (Ready i) (Rests i) n (pos 0) (applied i x b) (λ d. settled i d.state d.contract) (at_rest i v b.state m b.contract x r)
       (λ d k h. fine_same (Rests i) k (k -ℤ pos 0) (settled i d.state d.contract) (less_nothing k)
-      (settles i v h.0 d.state k d.contract h.1 (keeps_behind question.keeper h.0 i d.state d.contract (first_below i.from i.to h.0.latest v h.2)))))
+      (settles i v h.0 d.state k d.contract h.1 (keeps_behind question.keeper h.0 i d.state d.contract (first_within i.from i.to h.0.latest v h.2)))))
 
   less_both : (m b n : ℤ) → (m -ℤ b) -ℤ n ≡ m -ℤ (b +ℤ n)
   less_both m b n = omega (arith, ints)

@@ -1,5 +1,5 @@
 -- Which timeouts a walk leaves out: those that let a time pass up to which a party is waited for that keeps up.
-use Rattle.std.specs.Prelude.{ℤ, int_lt, Bool, true, false, ◌&&◌, Option, Some, None}
+use Rattle.std.specs.Prelude.{ℤ, pos, ◌-ℤ◌, int_lt, Bool, true, false, ◌&&◌, Option, Some, None}
 use Rattle.std.specs.Int.{int_max}
 use Rattle.contract.specs.Names.declared.party.Party.{Party}
 use Rattle.contract.specs.Tree.{ValueTree, available_money, constant, neg_value, add_value, sub_value, mul_value, div_value, choice_value, time_interval_start, time_interval_end, use_value, cond_value}
@@ -37,9 +37,12 @@ abbrev mutual
   holds_timeless true_obs = true
   holds_timeless false_obs = true
 
--- from a time on, nothing is read yet
+-- nothing is read yet: from a time on, and behind an input, which came before the timeout of its When
 abbrev pub quiet_from : ℤ → Quiet
 quiet_from time = record { latest = time; timeless = true }
+
+abbrev pub quiet_before : ℤ → Quiet
+quiet_before timeout = quiet_from (timeout -ℤ pos 1)
 
 -- .. with one more value or observation
 abbrev pub after_reading : Quiet → Bool → Quiet

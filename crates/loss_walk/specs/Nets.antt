@@ -18,7 +18,7 @@ use Rattle.keeping_up.specs.KeepsUp.{PaidAtLeastWhile, LosesAtMostWhile}
 use Rattle.analysis_walk.specs.Covered.{NoneTakes}
 use Rattle.loss_walk.specs.declared.question.Question.{Question}
 use Rattle.loss_walk.specs.declared.quiet.Quiet.{Quiet}
-use Rattle.loss_walk.specs.Cuts.{is_timeless, holds_timeless, quiet_from, after_reading, after_timeout, is_cut}
+use Rattle.loss_walk.specs.Cuts.{is_timeless, holds_timeless, quiet_from, quiet_before, after_reading, after_timeout, is_cut}
 
 -- what is taken off for an input: what it brings, or nothing
 abbrev pub taken_off : Bool → Party → Token → Input → ℤ
@@ -38,7 +38,7 @@ module _ (question : Question) (party : Party) (token : Token) (floor : ℤ) whe
         (holds i s o ≡ true → Nets next i s m c) × (holds i s o ≡ false → Nets next i s m d)
     Nets q i s m (when ks timeout c) =
         (j : Interval) (now : ℤ) → i.from ≤ℤ j.from → j.from ≤ℤ j.to → let later : StateMaps = record s { min_time = now } in
-        (j.to <ℤ timeout → NetsCases (quiet_from timeout) j later m [] ks)
+        (j.to <ℤ timeout → NetsCases (quiet_before timeout) j later m [] ks)
         × (is_cut question.keeper q ks timeout ≡ false → timeout ≤ℤ j.from → Nets (after_timeout q timeout) j later m c)
     Nets q i s m (let_be x v c) =
         let r = binding s x (eval i s v) (visited i s v) c in

@@ -1,7 +1,7 @@
 //! What lies between the last input and a place.
 ghost use Rattle.std.specs.Prelude.{◌≡◌, map};
 ghost use Rattle.contract.specs.Tree.{case_tree, case_trees};
-ghost use Rattle.loss_walk.specs.Cuts.{quiet_from, after_reading, after_timeout, is_cut};
+ghost use Rattle.loss_walk.specs.Cuts.{quiet_from, quiet_before, after_reading, after_timeout, is_cut};
 
 use crate::asking::asks_for;
 use crate::question::Question;
@@ -10,19 +10,30 @@ use contract::Case;
 /// The reductions since the last input, or since the start.
 #[derive(Clone, Copy, Debug)]
 pub(crate) struct Quiet {
-    /// The latest of the timeouts that they are behind; also that of the When that took the input, or the minimum time of the start.
-    pub(crate) latest: i64,
+    /// The latest of the timeouts that they are behind; also the last time before that of the When that took the input, or the
+    /// minimum time of the start.
+    pub(crate) latest: i128,
     /// Whether none of them reads a time.
     pub(crate) timeless: bool,
 }
 
 impl Quiet {
-    /// None yet, behind a time.
+    /// None yet, from a time on.
     pub(crate) fn from(time: i64) -> Quiet
         ensures { result ≡ quiet_from time }
     {
         Quiet {
-            latest: time,
+            latest: i128::from(time),
+            timeless: true,
+        }
+    }
+
+    /// None yet, behind an input that a When with this timeout took.
+    pub(crate) fn before(timeout: i64) -> Quiet
+        ensures { result ≡ quiet_before timeout }
+    {
+        Quiet {
+            latest: i128::from(timeout) - 1,
             timeless: true,
         }
     }
@@ -42,7 +53,7 @@ impl Quiet {
         ensures { result ≡ after_timeout self timeout }
     {
         Quiet {
-            latest: self.latest.max(timeout),
+            latest: self.latest.max(i128::from(timeout)),
             timeless: self.timeless,
         }
     }
@@ -53,7 +64,7 @@ impl Quiet {
     {
         match &question.keeper {
             None => false,
-            Some(party) => (self.timeless && self.latest < timeout) && asks_for(party, cases),
+            Some(party) => (self.timeless && self.latest < i128::from(timeout)) && asks_for(party, cases),
         }
     }
 }

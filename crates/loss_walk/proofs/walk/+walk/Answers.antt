@@ -4,7 +4,7 @@ use Rattle.contract.specs.Tree.{value_tree, observation_tree, contract_tree, cas
 use Rattle.analysis_walk.specs.Conclusions.{WaitsSo, TimesOutSo}
 use Rattle.analysis_values.specs.Known.{Known, IsDescribed}
 use Rattle.analysis_walk.specs.Knowledge.{actions_before}
-use Rattle.loss_walk.specs.Cuts.{after_reading, after_timeout, quiet_from, is_cut}
+use Rattle.loss_walk.specs.Cuts.{after_reading, after_timeout, quiet_before, is_cut}
 use Rattle.loss_walk.specs.Floors.{Finds, ClosesAbove, IsCovered, CoversBehind}
 use Rattle.loss_walk.proofs.CoverLemmas.{both_of, behind_nothing, close_found, pay_found, let_found, assert_found, if_found, when_found, cut_found, closed_found, case_found, none_below, one_below, at_index, last_below, last_found, known_found, none_found, no_cases_found, none_known}
 use Rattle.loss_walk.proofs.NodesLemmas.{is-Close, is-Pay, is-Let, is-Assert, is-If, is-When, nodes-at}
@@ -73,15 +73,15 @@ walk_both-returns t c = both_of _ _ _ _ _ _ c.in_ok-go_on.ensures c.in_ok-go_on-
 pub walk_when-returns-in_ok-walk_cases : goal.walk_when-returns-in_ok-walk_cases
 walk_when-returns-in_ok-walk_cases t c =
     let l = c.in_ok-known.known in
-    cut_found c.args.question.now c.args.quiet c.args.known l (case_trees (map case_tree c.args.cases.now)) c.args.timeout (contract_tree c.args.then.now) c.in_ok-waiting.waiting c.from.result _ _ c.in_ok-known.ensures
-    (subst (λ n. WaitsSo IsDescribed l n c.in_ok-waiting.waiting) (to_z-of_z w64 c.args.timeout c.ranges.timeout) c.in_ok-waiting.ensures) (c.from.ensures ∙ ap quiet_from (to_z-of_z w64 c.args.timeout c.ranges.timeout))
+    cut_found c.args.question.now c.args.quiet c.args.known l (case_trees (map case_tree c.args.cases.now)) c.args.timeout (contract_tree c.args.then.now) c.in_ok-waiting.waiting c.before.result _ _ c.in_ok-known.ensures
+    (subst (λ n. WaitsSo IsDescribed l n c.in_ok-waiting.waiting) (to_z-of_z w64 c.args.timeout c.ranges.timeout) c.in_ok-waiting.ensures) (c.before.ensures ∙ ap quiet_before (to_z-of_z w64 c.args.timeout c.ranges.timeout))
     (ap (is_cut c.args.question.now.keeper c.args.quiet (case_trees (map case_tree c.args.cases.now))) (sym (to_z-of_z w64 c.args.timeout c.ranges.timeout)) ∙ (sym c.cuts.ensures ∙ c.if-cuts.true)) c.in_ok-walk_cases.ensures
 
 pub walk_when-returns-in_ok-walk_cases-2 : goal.walk_when-returns-in_ok-walk_cases-2
 walk_when-returns-in_ok-walk_cases-2 t c =
     let l = c.in_ok-known.known in
-    closed_found c.args.question.now c.args.quiet c.args.known l (case_trees (map case_tree c.args.cases.now)) c.args.timeout (contract_tree c.args.then.now) c.in_ok-waiting-2.waiting c.from-then-is_closed.result _ _ _ c.in_ok-known.ensures
-    (subst (λ n. WaitsSo IsDescribed l n c.in_ok-waiting-2.waiting) (to_z-of_z w64 c.args.timeout c.ranges.timeout) c.in_ok-waiting-2.ensures) (c.from-then-is_closed.ensures ∙ ap quiet_from (to_z-of_z w64 c.args.timeout c.ranges.timeout))
+    closed_found c.args.question.now c.args.quiet c.args.known l (case_trees (map case_tree c.args.cases.now)) c.args.timeout (contract_tree c.args.then.now) c.in_ok-waiting-2.waiting c.before-then-is_closed.result _ _ _ c.in_ok-known.ensures
+    (subst (λ n. WaitsSo IsDescribed l n c.in_ok-waiting-2.waiting) (to_z-of_z w64 c.args.timeout c.ranges.timeout) c.in_ok-waiting-2.ensures) (c.before-then-is_closed.ensures ∙ ap quiet_before (to_z-of_z w64 c.args.timeout c.ranges.timeout))
     (c.is_closed.ensures c.if-is_closed.true)
     (subst (λ xs. Finds xs (ClosesAbove l) c.args.rows.now c.put_close.new.rows) c.as_slice.ensures c.in_ok-put_close.ensures) c.in_ok-walk_cases-2.ensures
 
@@ -92,8 +92,8 @@ walk_when-returns-in_ok-walk_cases-3 t c =
     let waiting = c.in_ok-waiting-3.waiting in
     let out = subst (λ k. TimesOutSo IsDescribed k c.args.timeout over) c.in_ok-try_clone.ensures
     (subst (λ n. TimesOutSo IsDescribed c.in_ok-try_clone.field-0 n over) (to_z-of_z w64 c.args.timeout c.ranges.timeout) c.in_ok-over.ensures) in
-    when_found c.args.question.now c.args.quiet c.args.known l (case_trees (map case_tree c.args.cases.now)) c.args.timeout (contract_tree c.args.then.now) waiting over c.from-else-is_closed.result c.timed_out.result _ _ _ c.in_ok-known.ensures
-    (subst (λ n. WaitsSo IsDescribed l n waiting) (to_z-of_z w64 c.args.timeout c.ranges.timeout) c.in_ok-waiting-3.ensures) out (c.from-else-is_closed.ensures ∙ ap quiet_from (to_z-of_z w64 c.args.timeout c.ranges.timeout))
+    when_found c.args.question.now c.args.quiet c.args.known l (case_trees (map case_tree c.args.cases.now)) c.args.timeout (contract_tree c.args.then.now) waiting over c.before-else-is_closed.result c.timed_out.result _ _ _ c.in_ok-known.ensures
+    (subst (λ n. WaitsSo IsDescribed l n waiting) (to_z-of_z w64 c.args.timeout c.ranges.timeout) c.in_ok-waiting-3.ensures) out (c.before-else-is_closed.ensures ∙ ap quiet_before (to_z-of_z w64 c.args.timeout c.ranges.timeout))
     (c.timed_out.ensures ∙ ap (after_timeout c.args.quiet) (to_z-of_z w64 c.args.timeout c.ranges.timeout)) c.in_ok-go_on.ensures c.in_ok-walk_cases-3.ensures
 
 -- ---- its cases
