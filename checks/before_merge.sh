@@ -27,6 +27,7 @@ try checks/refusals_cover.py
 try checks/rows_cover.py
 try checks/gallery.py
 try checks/conformance.py
+try checks/keeps_up.py 2000
 try bench/plots.py
 if [ -x crates/marlowe/out/marlowe ]; then
   try examples/check.sh

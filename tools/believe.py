@@ -54,7 +54,7 @@ FACES = [
 # words of the language, and names that are there without an import
 WORDS = set("Type Unit tt ⊥ × → = : | * _ record data where do let in rw cc absurd abbrev pub mutual unfoldable module infixl infixr ( ) { } , ; . λ ← result Self".split())
 CRATES = [line.split(":")[0] for line in (TOP / "crates.txt").read_text().splitlines() if ":" in line and not line.startswith("#")]
-TOKEN = re.compile(r'"[^"]*"|\[\]|[(){},;.λ]|[^\s(){},;."λ]+')
+TOKEN = re.compile(r'"(?:\\.|[^"\\])*"|\[\]|[(){},;.λ]|[^\s(){},;."λ]+')
 HEAD = re.compile(r"^((?:abbrev |unfoldable |pub )*)(data |record )?(\S+)(?: :| [({].*:)")
 USE = re.compile(r"^(?:pub |ghost )?use ([\w.]+?)(?:\.\{(.*)\}| as (\w+))?;?$")
 
