@@ -1,17 +1,17 @@
 #!/usr/bin/env python3
 """Makes small contracts and runs at random, judges by the definition in which of them a party keeps up, and looks whether such a run leaves a When
-by its timeout that `kept_up` never leaves so.
+by its timeout that `kept_up` never leaves so; and with a program, whether it pays the party less, or leaves it further down, than `analyse --party` says.
 
-Needs    nothing built
+Needs    nothing built; with MARLOWE=PATH that program
 Usage    checks/keeps_up.py [CONTRACTS [SEED]]     20,000 contracts from the seed 0 on, where nothing else is said; 12 runs of each
-Expect   how many runs there were, in how many the party kept up and how many of those closed, how many Whens are never left, and
-         `N contracts, N runs, no difference`
-Else     the contract, the state, the transactions and the timeouts, and status 1.
+Expect   how many runs there were, in how many the party kept up and how many of those closed, how many Whens are never left; with a program
+         how many bounds it told and how many of them a run reached; and `N contracts, N runs, no difference`
+Else     the contract, the state, and the timeouts or the bound, and status 1.
 
 The definition is that of crates/keeping_up/specs/KeepsUp.antt, tried at every moment from the minimum time on: times lie below 14. Which Whens are
-never left is that of crates/loss_walk/specs/Cuts.antt. It says nothing of sums: which those are is the walk's part, and proved.
+never left is that of crates/loss_walk/specs/Cuts.antt.
 """
-import collections, os, random, sys
+import collections, json, os, random, subprocess, sys
 
 sys.path.insert(0, os.path.dirname(os.path.abspath(__file__)))
 import interpreter
@@ -177,51 +177,98 @@ def made_input(chance, machine, action):
     return "input_notify"
 
 
+def brought(given):
+    """What an input brings of the party's."""
+    return max(given["that_deposits"], 0) if has(given, "that_deposits") and given["input_from_party"] == PARTY else 0
+
+
+def paid(machine):
+    """What a transaction pays the party."""
+    me = ("party", interpreter.party(PARTY))
+    return sum(amount for _, target, _, amount in machine.payments if target == me)
+
+
 def played(chance, contract, state):
-    """A random transaction at its end and what it leaves, or nothing where it is refused; and where it starts."""
+    """A random transaction at its end, what it leaves and what the party brings; and where it starts."""
     start = max(0, state["minTime"] + chance.choice([-1, 0, 0, 1, 2, 3]))
     machine = Noting(state, {"from": start, "to": start + chance.choice([0, 0, 0, 1, 3])})
-    left = machine.settle(contract)
+    left, brings = machine.settle(contract), 0
     for _ in range(chance.choice([0, 0, 1, 1, 1, 2, 3])):
         if left == "close" or not left["when"]:
             break
-        left = machine.settle(machine.apply(made_input(chance, machine, chance.choice(left["when"])["case"]), left))
+        given = made_input(chance, machine, chance.choice(left["when"])["case"])
+        left = machine.settle(machine.apply(given, left))
+        brings += brought(given)
     if not machine.turned:
         machine.refuse("Useless")
-    return start, machine, left
+    return start, machine, left, brings
 
 
 def run(chance, contract, state, count):
-    """A random run: the Whens that it left by their timeouts, and whether the party kept up."""
-    keeps, left = True, []
+    """A random run: the Whens that it left by their timeouts, whether the party kept up, and what it was paid and brought where all is out."""
+    keeps, left, sums = True, [], [0, 0]
     for _ in range(MOST_TRANSACTIONS):
         try:
-            start, machine, behind = played(chance, contract, state)
+            start, machine, behind, brings = played(chance, contract, state)
         except Refused:
             continue
         keeps = keeps and is_in_time(contract, state, start)
         left += machine.left
+        sums = [sums[0] + paid(machine), sums[1] + brings]
         contract, state = behind, interpreter.state_json(machine, int)
         if contract == "close":
             break
     count["runs"] += 1
     count["in which it kept up"] += keeps
     count["of them closed"] += keeps and contract == "close"
-    return keeps, left
+    return keeps, left, sums if contract == "close" and not state["accounts"] else None
+
+
+# ---- what the program says
+
+class Told:
+    """A program that is asked in a stream what the party is sure of."""
+
+    def __init__(self, path):
+        self.program = subprocess.Popen([path, "serve"], stdin=subprocess.PIPE, stdout=subprocess.PIPE, text=True) if path else None
+
+    def bounds(self, contract, state):
+        """What it is paid at least and loses at most, or nothing where that isn't told."""
+        if not self.program:
+            return None
+        asked = {"analyse": {"contract": contract, "state": state, "no_runs": True, "party": PARTY}}
+        self.program.stdin.write(json.dumps(asked) + "\n")
+        self.program.stdin.flush()
+        tokens = json.loads(self.program.stdout.readline())["ok"]["while_keeping_up"]["tokens"]
+        if tokens is None:
+            return None
+        one = next((it for it in tokens if it["token"] == ADA), {"least": 0, "down": 0})
+        return int(one["least"]), None if one["down"] is None else int(one["down"])
+
+
+def differs(bounds, sums, count):
+    """Whether sums break the bounds; and those that are reached are counted."""
+    (least, most), (got, brings) = bounds, sums
+    count["runs that reach what is told"] += got == least or brings - got == most
+    return got < least or (most is not None and brings - got > most)
 
 
 def main():
     given = [int(it) for it in sys.argv[1:]]
     contracts, seed = (given + [20_000, 0][len(given):])[:2]
-    count = collections.Counter()
+    count, told = collections.Counter(), Told(os.environ.get("MARLOWE"))
     for number in range(contracts):
         chance = random.Random(f"{seed}.{number}")
         contract = Maker(chance).contract(chance.choice([2, 3, 4, 5]))
         state = {"accounts": [], "boundValues": [], "choices": [], "minTime": chance.choice([0, 0, 2, 4])}
-        never = cut(contract, state["minTime"])
+        never, bounds = cut(contract, state["minTime"]), told.bounds(contract, state)
+        count["contracts of which bounds are told"] += bounds is not None
         count["Whens that are never left"] += len(never)
         for _ in range(RUNS):
-            keeps, left = run(chance, contract, state, count)
+            keeps, left, sums = run(chance, contract, state, count)
+            if keeps and sums and bounds and differs(bounds, sums, count):
+                print(f"{seed}.{number}", contract, state, bounds, sums, sep="\n")
+                return 1
             wrong = [it for it in left if any(it is other for other in never)]
             if keeps and wrong:
                 print(f"{seed}.{number}", contract, state, [it["timeout"] for it in wrong], sep="\n")
