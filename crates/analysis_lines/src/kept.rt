@@ -85,7 +85,10 @@ fn put_nothing(alloc: Global, out: &mut Vec<u8>, given: bool, party: &Party) -> 
 {
     let party = term_text(alloc, party)?;
     put_bytes(out, party.as_bytes())?;
-    put_bytes(out, b" at least 0, never down of any token while it keeps up")?;
+    put_bytes(
+        out,
+        b" at least 0, never down of any token while it keeps up",
+    )?;
     put_given(out, given)
 }
 

@@ -64,7 +64,8 @@ impl Quiet {
     {
         match &question.keeper {
             None => false,
-            Some(party) => (self.timeless && self.latest < i128::from(timeout)) && asks_for(party, cases),
+            Some(party) => (self.timeless && self.latest < i128::from(timeout))
+                && asks_for(party, cases),
         }
     }
 }

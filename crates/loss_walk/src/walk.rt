@@ -148,18 +148,39 @@ fn walk_when(
     let known = later(known)?;
     if quiet.cuts(question, cases, timeout) {
         let waiting = wait(alloc, known, timeout)?;
-        walk_cases(alloc, question, Quiet::before(timeout), waiting, cases, rows)?;
+        walk_cases(
+            alloc,
+            question,
+            Quiet::before(timeout),
+            waiting,
+            cases,
+            rows,
+        )?;
         Ok(())
     } else if is_closed(then) {
         put_close(rows, &known, question.asked.as_slice())?;
         let waiting = wait(alloc, known, timeout)?;
-        walk_cases(alloc, question, Quiet::before(timeout), waiting, cases, rows)?;
+        walk_cases(
+            alloc,
+            question,
+            Quiet::before(timeout),
+            waiting,
+            cases,
+            rows,
+        )?;
         Ok(())
     } else {
         let over = time_out(alloc, known.try_clone()?, timeout)?;
         go_on(alloc, question, quiet.timed_out(timeout), over, then, rows)?;
         let waiting = wait(alloc, known, timeout)?;
-        walk_cases(alloc, question, Quiet::before(timeout), waiting, cases, rows)?;
+        walk_cases(
+            alloc,
+            question,
+            Quiet::before(timeout),
+            waiting,
+            cases,
+            rows,
+        )?;
         Ok(())
     }
 }
