@@ -121,7 +121,7 @@ module _ (party : Party) (asked : List Account) (paid net : Rows) (s : StateMaps
   paid_anyway N A above t ts spent keeps = natural_paid party t (payments_of (standing s c) ts) (natural_run N A (standing s c) ts above)
 
   at_least : PaymentsAreNatural → AccountsStayPositive → AllPositive (entries s.accounts) → (t : Token) (n : ℤ) → (n ≤ℤ pos 0) ⊎ IsFloor asked paid (account_of party t) n → PaidAtLeastWhile party t n s c
-  at_least N A above t n (inl h) ts spent keeps = no_more n (pos 0) (paid_to party t (payments_of (standing s c) ts)) h (paid_anyway N A above t ts spent keeps)
+  at_least N A above t n (inl h) = λ ts spent keeps. no_more n (pos 0) (paid_to party t (payments_of (standing s c) ts)) h (paid_anyway N A above t ts spent keeps)
   at_least N A above t n (inr h) = pays t n h
 
   at_most : (t : Token) (o : Option ℤ) → IfSome o (λ n. IsFloor asked net (account_of party t) (neg_ℤ n)) → IfSome o (λ n. LosesAtMostWhile party t n s c)

@@ -29,7 +29,7 @@ impl Quiet {
     }
 
     /// None yet, behind an input that a When with this timeout took.
-    pub(crate) fn before(timeout: i64) -> Quiet
+    pub(crate) fn behind_input(timeout: i64) -> Quiet
         ensures { result ≡ quiet_before timeout }
     {
         Quiet {

@@ -151,7 +151,7 @@ fn walk_when(
         walk_cases(
             alloc,
             question,
-            Quiet::before(timeout),
+            Quiet::behind_input(timeout),
             waiting,
             cases,
             rows,
@@ -163,7 +163,7 @@ fn walk_when(
         walk_cases(
             alloc,
             question,
-            Quiet::before(timeout),
+            Quiet::behind_input(timeout),
             waiting,
             cases,
             rows,
@@ -176,7 +176,7 @@ fn walk_when(
         walk_cases(
             alloc,
             question,
-            Quiet::before(timeout),
+            Quiet::behind_input(timeout),
             waiting,
             cases,
             rows,

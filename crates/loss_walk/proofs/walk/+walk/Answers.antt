@@ -73,15 +73,15 @@ walk_both-returns t c = both_of _ _ _ _ _ _ c.in_ok-go_on.ensures c.in_ok-go_on-
 pub walk_when-returns-in_ok-walk_cases : goal.walk_when-returns-in_ok-walk_cases
 walk_when-returns-in_ok-walk_cases t c =
     let l = c.in_ok-known.known in
-    cut_found c.args.question.now c.args.quiet c.args.known l (case_trees (map case_tree c.args.cases.now)) c.args.timeout (contract_tree c.args.then.now) c.in_ok-waiting.waiting c.before.result _ _ c.in_ok-known.ensures
-    (subst (λ n. WaitsSo IsDescribed l n c.in_ok-waiting.waiting) (to_z-of_z w64 c.args.timeout c.ranges.timeout) c.in_ok-waiting.ensures) (c.before.ensures ∙ ap quiet_before (to_z-of_z w64 c.args.timeout c.ranges.timeout))
+    cut_found c.args.question.now c.args.quiet c.args.known l (case_trees (map case_tree c.args.cases.now)) c.args.timeout (contract_tree c.args.then.now) c.in_ok-waiting.waiting c.behind_input.result _ _ c.in_ok-known.ensures
+    (subst (λ n. WaitsSo IsDescribed l n c.in_ok-waiting.waiting) (to_z-of_z w64 c.args.timeout c.ranges.timeout) c.in_ok-waiting.ensures) (c.behind_input.ensures ∙ ap quiet_before (to_z-of_z w64 c.args.timeout c.ranges.timeout))
     (ap (is_cut c.args.question.now.keeper c.args.quiet (case_trees (map case_tree c.args.cases.now))) (sym (to_z-of_z w64 c.args.timeout c.ranges.timeout)) ∙ (sym c.cuts.ensures ∙ c.if-cuts.true)) c.in_ok-walk_cases.ensures
 
 pub walk_when-returns-in_ok-walk_cases-2 : goal.walk_when-returns-in_ok-walk_cases-2
 walk_when-returns-in_ok-walk_cases-2 t c =
     let l = c.in_ok-known.known in
-    closed_found c.args.question.now c.args.quiet c.args.known l (case_trees (map case_tree c.args.cases.now)) c.args.timeout (contract_tree c.args.then.now) c.in_ok-waiting-2.waiting c.before-then-is_closed.result _ _ _ c.in_ok-known.ensures
-    (subst (λ n. WaitsSo IsDescribed l n c.in_ok-waiting-2.waiting) (to_z-of_z w64 c.args.timeout c.ranges.timeout) c.in_ok-waiting-2.ensures) (c.before-then-is_closed.ensures ∙ ap quiet_before (to_z-of_z w64 c.args.timeout c.ranges.timeout))
+    closed_found c.args.question.now c.args.quiet c.args.known l (case_trees (map case_tree c.args.cases.now)) c.args.timeout (contract_tree c.args.then.now) c.in_ok-waiting-2.waiting c.behind_input-then-is_closed.result _ _ _ c.in_ok-known.ensures
+    (subst (λ n. WaitsSo IsDescribed l n c.in_ok-waiting-2.waiting) (to_z-of_z w64 c.args.timeout c.ranges.timeout) c.in_ok-waiting-2.ensures) (c.behind_input-then-is_closed.ensures ∙ ap quiet_before (to_z-of_z w64 c.args.timeout c.ranges.timeout))
     (c.is_closed.ensures c.if-is_closed.true)
     (subst (λ xs. Finds xs (ClosesAbove l) c.args.rows.now c.put_close.new.rows) c.as_slice.ensures c.in_ok-put_close.ensures) c.in_ok-walk_cases-2.ensures
 
@@ -92,8 +92,8 @@ walk_when-returns-in_ok-walk_cases-3 t c =
     let waiting = c.in_ok-waiting-3.waiting in
     let out = subst (λ k. TimesOutSo IsDescribed k c.args.timeout over) c.in_ok-try_clone.ensures
     (subst (λ n. TimesOutSo IsDescribed c.in_ok-try_clone.field-0 n over) (to_z-of_z w64 c.args.timeout c.ranges.timeout) c.in_ok-over.ensures) in
-    when_found c.args.question.now c.args.quiet c.args.known l (case_trees (map case_tree c.args.cases.now)) c.args.timeout (contract_tree c.args.then.now) waiting over c.before-else-is_closed.result c.timed_out.result _ _ _ c.in_ok-known.ensures
-    (subst (λ n. WaitsSo IsDescribed l n waiting) (to_z-of_z w64 c.args.timeout c.ranges.timeout) c.in_ok-waiting-3.ensures) out (c.before-else-is_closed.ensures ∙ ap quiet_before (to_z-of_z w64 c.args.timeout c.ranges.timeout))
+    when_found c.args.question.now c.args.quiet c.args.known l (case_trees (map case_tree c.args.cases.now)) c.args.timeout (contract_tree c.args.then.now) waiting over c.behind_input-else-is_closed.result c.timed_out.result _ _ _ c.in_ok-known.ensures
+    (subst (λ n. WaitsSo IsDescribed l n waiting) (to_z-of_z w64 c.args.timeout c.ranges.timeout) c.in_ok-waiting-3.ensures) out (c.behind_input-else-is_closed.ensures ∙ ap quiet_before (to_z-of_z w64 c.args.timeout c.ranges.timeout))
     (c.timed_out.ensures ∙ ap (after_timeout c.args.quiet) (to_z-of_z w64 c.args.timeout c.ranges.timeout)) c.in_ok-go_on.ensures c.in_ok-walk_cases-3.ensures
 
 -- ---- its cases
