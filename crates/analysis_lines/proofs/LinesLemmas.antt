@@ -2,6 +2,7 @@
 use Rattle.std.proofs.Common.{◌≡◌, ℕ, suc, arith, Bool, true, false, List, [], ◌∷◌, ◌++◌, map, length, refl, sym, ap, ◌∙◌, subst, append_assoc, Option, Some}
 use Rattle.std.specs.Prelude.{flat_map, codes, ◌==◌}
 use Rattle.std.proofs.lemmas.Bool.Decides.{Decides-eqb}
+use Rattle.contract.specs.Names.declared.party.Party.{Party}
 use Rattle.contract.specs.declared.transaction.Transaction.{Transaction}
 use Rattle.json.specs.Print.{print}
 use Rattle.json.specs.Written.{Written}
@@ -16,6 +17,8 @@ use Rattle.analysis_lines.specs.ToldLines.{line_of}
 use Rattle.analysis_lines.specs.Lines.{transaction_line, run_lines, alarm_lines, alarms_lines}
 use Rattle.places.specs.Texts.{place_json}
 use Rattle.analysis_lines.specs.Tools.{alarm_json}
+use Rattle.keeping_up.specs.declared.kept.Kept.{Kept}
+use Rattle.analysis_lines.specs.Kept.{nothing_line, kept_line, kept_lines}
 
 not_zero : (n : ℕ) (b : Bool) → b ≡ (suc n == 0) → b ≡ true → ⊥
 not_zero n b e h = let q : suc n ≡ 0 = (Decides-eqb (suc n) 0).0 (sym e ∙ h) in absurd (omega arith)
@@ -42,6 +45,18 @@ lines_some runs (t ∷ ts) b e h = sym (lines_each runs (t ∷ ts))
 pub lines_none : (runs : Bool) (ts : List ToldAlarm) (b : Bool) → b ≡ (length ts == 0) → b ≡ true → codes "never warns, stays within 128 bits" ++ 10 ∷ [] ≡ alarms_lines runs (map line_of ts)
 lines_none runs [] b e h = refl
 lines_none runs (t ∷ ts) b e h = absurd (not_zero (length ts) b e h)
+
+-- what is told of a party that keeps up
+pub kept_none : (given : Bool) (p : Party) (ks : List Kept) (b : Bool) → b ≡ (length ks == 0) → b ≡ true → nothing_line given p ≡ kept_lines given p (Some ks)
+kept_none given p [] b e h = refl
+kept_none given p (k ∷ ks) b e h = absurd (not_zero (length ks) b e h)
+
+pub kept_some : (given : Bool) (p : Party) (ks : List Kept) (b : Bool) → b ≡ (length ks == 0) → b ≡ false → flat_map (kept_line given p) ks ≡ kept_lines given p (Some ks)
+kept_some given p [] b e h = absurd (cc)
+kept_some given p (k ∷ ks) b e h = refl
+
+pub sure_pieces : (a p b q line : List ℕ) → line ≡ a ++ (codes ", " ++ (b ++ codes " while it keeps up")) → a ≡ p → b ≡ q → line ≡ p ++ (codes ", " ++ (q ++ codes " while it keeps up"))
+sure_pieces a p b q line e f g = e ∙ ap (λ x. x ++ (codes ", " ++ (b ++ codes " while it keeps up"))) f ∙ ap (λ x. p ++ (codes ", " ++ (x ++ codes " while it keeps up"))) g
 
 -- a run that is known
 pub run_pieces : (a b d : List ℕ) (o : Option (List Transaction)) (ts us : List Transaction) → o ≡ Some ts → us ≡ ts → b ≡ a ++ (codes ", by this run:" ++ 10 ∷ []) → d ≡ b ++ flat_map transaction_line us → d ≡ a ++ run_lines true o

@@ -20,16 +20,23 @@ abbrev pub down_text : Option ℤ → List ℕ
 down_text None = loss_text None
 down_text (Some n) = if int_lt n (pos 0) then up_text n else loss_text (Some n)
 
--- what it is paid at least once the contract is closed, and that
+-- what it is paid at least, once the contract is closed
+abbrev pub least_text : ℤ → List ℕ
+least_text n = codes "at least " ++ signed_decimal n
+
+-- .. both
 abbrev pub sure_text : Kept → List ℕ
-sure_text k = codes "at least " ++ (signed_decimal k.least ++ (codes ", " ++ (down_text k.most ++ codes " while it keeps up")))
+sure_text k = least_text k.least ++ (codes ", " ++ (down_text k.most ++ codes " while it keeps up"))
 
 abbrev pub kept_line : Bool → Party → Kept → List ℕ
 kept_line given p k = holder_text p k.token ++ (sure_text k ++ given_text given)
 
 -- .. where no token is told
+abbrev pub nothing_text : Party → List ℕ
+nothing_text p = compact_text (party_json p) ++ codes " at least 0, never down of any token while it keeps up"
+
 abbrev pub nothing_line : Bool → Party → List ℕ
-nothing_line given p = compact_text (party_json p) ++ (codes " at least 0, never down of any token while it keeps up" ++ given_text given)
+nothing_line given p = nothing_text p ++ given_text given
 
 abbrev pub kept_lines : Bool → Party → Option (List Kept) → List ℕ
 kept_lines given p None = []

@@ -4,7 +4,8 @@ ghost use Rattle.serde_json.specs.Data.{array};
 ghost use Rattle.serde_json.specs.View.{items_of};
 ghost use Rattle.serde_json.specs.Written.{compact_text};
 ghost use Rattle.json_write_contracts.specs.Tokens.{Puts};
-ghost use Rattle.analysis_lines.specs.Kept.{down_text, kept_json, kept_line, kept_lines, kept_token_json, nothing_line, sure_text, tokens_json, up_text, with_kept, with_member};
+ghost use Rattle.analysis_lines.specs.Tools.{bound_json};
+ghost use Rattle.analysis_lines.specs.Kept.{down_text, kept_json, kept_line, kept_lines, kept_token_json, least_text, nothing_line, nothing_text, sure_text, tokens_json, up_text, with_kept, with_member};
 
 use crate::lines::{loss_text, put_bytes, put_given};
 use crate::reached::put_holder;
@@ -83,13 +84,16 @@ fn put_all(
 fn put_nothing(alloc: Global, out: &mut Vec<u8>, given: bool, party: &Party) -> Result<(), Memory>
     ensures { OnOk result (out.new.items ≡ out.old.items ++ nothing_line given party.now) }
 {
-    let party = term_text(alloc, party)?;
-    put_bytes(out, party.as_bytes())?;
-    put_bytes(
-        out,
-        b" at least 0, never down of any token while it keeps up",
-    )?;
+    let text = nothing_text(alloc, party)?;
+    put_bytes(out, text.as_bytes())?;
     put_given(out, given)
+}
+
+fn nothing_text(alloc: Global, party: &Party) -> Result<String, Memory>
+    ensures { IfOk result (λ text. string_bytes text ≡ nothing_text party.now) }
+{
+    let party = term_text(alloc, party)?;
+    format!(in alloc; "{party} at least 0, never down of any token while it keeps up")
 }
 
 fn put_each(
@@ -126,9 +130,17 @@ fn put_line(
 fn sure_text(alloc: Global, kept: &Kept) -> Result<String, Memory>
     ensures { IfOk result (λ text. string_bytes text ≡ sure_text kept.now) }
 {
-    let least = kept.least;
+    let least = least_text(alloc, kept)?;
     let most = down_text(alloc, kept.most)?;
-    format!(in alloc; "at least {least}, {most} while it keeps up")
+    let text = format!(in alloc; "{least}, {most} while it keeps up")?;
+    Ok(text)
+}
+
+fn least_text(alloc: Global, kept: &Kept) -> Result<String, Memory>
+    ensures { IfOk result (λ text. string_bytes text ≡ least_text kept.now.least) }
+{
+    let least = kept.least;
+    format!(in alloc; "at least {least}")
 }
 
 fn down_text(alloc: Global, most: Option<i128>) -> Result<String, Memory>
@@ -225,9 +237,15 @@ fn put_token_of(alloc: Global, out: &mut Writer, kept: &Kept) -> Result<(), Memo
     out.key("down")?;
     put_bound(alloc, out, kept.most)?;
     out.key("least")?;
-    put_bound(alloc, out, Some(kept.least))?;
+    put_least(alloc, out, kept)?;
     out.key("token")?;
     put_token(alloc, out, &kept.token)?;
     out.end_object()?;
     Ok(())
+}
+
+fn put_least(alloc: Global, out: &mut Writer, kept: &Kept) -> Result<(), Memory>
+    ensures { OnOk result (Puts out.old out.new (bound_json (Some kept.now.least))) }
+{
+    put_bound(alloc, out, Some(kept.least))
 }

@@ -1,6 +1,6 @@
 //! One text that isn't read.
 ghost use Rattle.std.specs.Prelude.{IfOk};
-ghost use Rattle.json_forms.specs.declared.sort.Sort.TheVariants as sorts;
+ghost use Rattle.explanations.specs.JsonForms.declared.sort.Sort.TheVariants as sorts;
 ghost use Rattle.refusal_reasons.specs.Reasons.{TellsFlat, TellsScenario};
 
 use crate::source::Source;
