@@ -1,5 +1,5 @@
 //! What is told of a party that keeps up.
-ghost use Rattle.std.specs.Prelude.{◌≡◌, ◌++◌, ◌-◌, length, map, flat_map, take, Some, IfOk, OnOk, string_bytes};
+ghost use Rattle.std.specs.Prelude.{◌≡◌, ◌++◌, ◌-◌, length, map, flat_map, take, Some, IfOk, OnOk, codes, string_bytes};
 ghost use Rattle.serde_json.specs.Data.{array};
 ghost use Rattle.serde_json.specs.View.{items_of};
 ghost use Rattle.serde_json.specs.Written.{compact_text};
@@ -132,8 +132,14 @@ fn sure_text(alloc: Global, kept: &Kept) -> Result<String, Memory>
 {
     let least = least_text(alloc, kept)?;
     let most = down_text(alloc, kept.most)?;
-    let text = format!(in alloc; "{least}, {most} while it keeps up")?;
+    let text = both(alloc, least.as_str(), most.as_str())?;
     Ok(text)
+}
+
+fn both(alloc: Global, least: &str, most: &str) -> Result<String, Memory>
+    ensures { IfOk result (λ text. string_bytes text ≡ least.now ++ (codes ", " ++ (most.now ++ codes " while it keeps up"))) }
+{
+    format!(in alloc; "{least}, {most} while it keeps up")
 }
 
 fn least_text(alloc: Global, kept: &Kept) -> Result<String, Memory>
