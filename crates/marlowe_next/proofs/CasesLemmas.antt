@@ -198,20 +198,20 @@ room_more (Some m) before after case n h is e g =
     omega arith
 
 -- all inputs are told
-pub all_told : (most : Option ℕ) (inputs : List Applicable) (told : List CaseTold) → seen_cases told ≡ inputs → IfSome most (λ m. length told ≤ m) → TellsFirst most inputs (seen_cases told) 0
-all_told None inputs told e h = (e, refl)
-all_told (Some m) inputs told e h =
-    let same : length inputs ≡ length told = ap length (sym e) ∙ length-map told seen_case in
-    (e ∙ sym (take_all m inputs (omega arith)), omega arith)
+pub all_told : (most : Option ℕ) (xs : List Applicable) (told : List CaseTold) → seen_cases told ≡ xs → IfSome most (λ m. length told ≤ m) → TellsFirst most xs (seen_cases told) 0
+all_told None xs told e h = (e, refl)
+all_told (Some m) xs told e h =
+    let same : length xs ≡ length told = ap length (sym e) ∙ length-map told seen_case in
+    (e ∙ sym (take_all m xs (omega arith)), omega arith)
 
 -- those of the first cases are told, which are as many as may be
 pub first_told : (most : Option ℕ) (refused : Input → Option SemFault) (ks : List Pair) (fs : List Offer) (index n more : ℕ) (told : List CaseTold) → is_full n most ≡ true → n ≡ length told
     → seen_cases told ≡ applicable_from refused 0 (take index ks) (take index fs) → more + length (applicable_from refused 0 (take index ks) (take index fs)) ≡ length (applicable_from refused 0 ks fs)
     → TellsFirst most (applicable_from refused 0 ks fs) (seen_cases told) more
-first_told None refused ks fs index n more told full is e counted = absurd (cc)
+first_told None refused ks fs index n more told full is e counted = absurd (let bad : false ≡ true = full in cc)
 first_told (Some m) refused ks fs index n more told full is e counted =
     let front = applicable_from refused 0 (take index ks) (take index fs) in
     let split = from_front refused 0 ks fs index in
     let so_many : n ≡ m = same_number n m full in
     let long : length front ≡ m = ap length (sym e) ∙ length-map told seen_case ∙ sym is ∙ so_many in
-    (e ∙ sym (ap (take m) split.1 ∙ take_at front split.0 m long), omega arith)
+    (e ∙ sym (ap (λ (ys : List Applicable). take m ys) split.1 ∙ take_at front split.0 m long), omega arith)
