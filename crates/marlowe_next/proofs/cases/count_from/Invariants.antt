@@ -9,6 +9,6 @@ abbrev pub invariant-loop-index : goal.invariant-loop-index
 invariant-loop-index g l =
     let ks = waits_for (g.S.Parts.tree l.parts l.place) in
     record {
-      counted : (refused : Input → Option SemFault) → l.count + length (applicable_from refused 0 (take l.first ks) (take l.first l.offers)) ≡ length (applicable_from refused 0 (take l.index ks) (take l.index l.offers));
+      counted : (refused : Input → Option SemFault) → l.count + length (applicable_from refused 0 (take l.fn.first ks) (take l.fn.first l.offers)) ≡ length (applicable_from refused 0 (take l.index ks) (take l.index l.offers));
       below : l.count ≤ l.index;
     }
