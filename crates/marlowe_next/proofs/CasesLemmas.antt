@@ -161,9 +161,13 @@ counted_more c fs n f before count one each l is counts refused so_far =
     omega arith
 
 -- no case is left
-pub from_all : (refused : Input → Option SemFault) (ks : List Pair) (fs : List Offer) (n : ℕ) → length fs ≤ n → length fs ≡ length ks → applicable_from refused 0 (take n ks) (take n fs) ≡ applicable_from refused 0 ks fs
+from_all : (refused : Input → Option SemFault) (ks : List Pair) (fs : List Offer) (n : ℕ) → length fs ≤ n → length fs ≡ length ks → applicable_from refused 0 (take n ks) (take n fs) ≡ applicable_from refused 0 ks fs
 from_all refused ks fs n l each =
     ap (λ (xs : List Pair). applicable_from refused 0 xs (take n fs)) (take_all n ks (omega arith)) ∙ ap (λ (xs : List Offer). applicable_from refused 0 ks xs) (take_all n fs l)
+
+pub counted_all : (refused : Input → Option SemFault) (ks : List Pair) (fs : List Offer) (n before count : ℕ) → count + before ≡ length (applicable_from refused 0 (take n ks) (take n fs)) → length fs ≤ n → length fs ≡ length ks
+    → count + before ≡ length (applicable_from refused 0 ks fs)
+counted_all refused ks fs n before count e l each = e ∙ ap length (from_all refused ks fs n l each)
 
 -- those of the first cases come first
 from_front : (refused : Input → Option SemFault) (before : ℕ) (ks : List Pair) (fs : List Offer) (n : ℕ) → (rest : List Applicable) × (applicable_from refused before ks fs ≡ applicable_from refused before (take n ks) (take n fs) ++ rest)
@@ -198,11 +202,15 @@ room_more (Some m) before after case n h is e g =
     omega arith
 
 -- all inputs are told
-pub all_told : (most : Option ℕ) (xs : List Applicable) (told : List CaseTold) → seen_cases told ≡ xs → IfSome most (λ m. length told ≤ m) → TellsFirst most xs (seen_cases told) 0
-all_told None xs told e h = (e, refl)
-all_told (Some m) xs told e h =
+told_within : (most : Option ℕ) (xs : List Applicable) (told : List CaseTold) → seen_cases told ≡ xs → IfSome most (λ m. length told ≤ m) → TellsFirst most xs (seen_cases told) 0
+told_within None xs told e h = (e, refl)
+told_within (Some m) xs told e h =
     let same : length xs ≡ length told = ap length (sym e) ∙ length-map told seen_case in
     (e ∙ sym (take_all m xs (omega arith)), omega arith)
+
+pub all_told : (most : Option ℕ) (refused : Input → Option SemFault) (ks : List Pair) (fs : List Offer) (n : ℕ) (told : List CaseTold) → seen_cases told ≡ applicable_from refused 0 (take n ks) (take n fs) → length fs ≤ n → length fs ≡ length ks
+    → IfSome most (λ m. length told ≤ m) → TellsFirst most (applicable_from refused 0 ks fs) (seen_cases told) 0
+all_told most refused ks fs n told e l each h = told_within most (applicable_from refused 0 ks fs) told (e ∙ from_all refused ks fs n l each) h
 
 -- those of the first cases are told, which are as many as may be
 pub first_told : (most : Option ℕ) (refused : Input → Option SemFault) (ks : List Pair) (fs : List Offer) (index n more : ℕ) (told : List CaseTold) → is_full n most ≡ true → n ≡ length told

@@ -1,7 +1,7 @@
-use Rattle.std.proofs.Common.{length, take, arith, ap, ◌∙◌}
+use Rattle.std.proofs.Common.{length, take, arith}
 use Rattle.marlowe_run.specs.Semantics.Evaluation.Path.{waits_for}
 use Rattle.marlowe_next.specs.Applicable.{applicable_from}
-use Rattle.marlowe_next.proofs.CasesLemmas.{counted_more, from_all}
+use Rattle.marlowe_next.proofs.CasesLemmas.{counted_more, counted_all}
 use Rattle.marlowe_next.proofs.cases.count_from.Goals as goal
 
 pub loop-index-init : goal.loop-index-init
@@ -24,4 +24,5 @@ pub returns : goal.returns
 returns g c =
     let tree = g.S.Parts.tree c.args.parts.now c.args.place in
     λ refused.
-    c.loop-index.invariant.counted refused ∙ ap length (from_all refused (waits_for tree) c.args.offers.now c.loop-index.index c.loop-index-test.false c.requires.each)
+    counted_all refused (waits_for tree) c.args.offers.now c.loop-index.index (length (applicable_from refused 0 (take c.args.first (waits_for tree)) (take c.args.first c.args.offers.now))) c.loop-index.count
+    (c.loop-index.invariant.counted refused) c.loop-index-test.false c.requires.each
