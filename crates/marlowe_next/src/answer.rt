@@ -169,9 +169,7 @@ fn from_left(
     let interval = interval_of(asked, &left.state);
     match settle(alloc, left.contract, &left.state, interval) {
         Ok(settled) => {
-            let text = settled_text(
-                alloc, whole, left, interval, &settled, asked.json, most,
-            );
+            let text = settled_text(alloc, whole, left, interval, &settled, asked.json, most);
             let text = beside_dropped(settled, text)?;
             Ok(text)
         }

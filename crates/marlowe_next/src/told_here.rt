@@ -69,7 +69,13 @@ fn offered_text(
     let outcome = &settled.outcome;
     let most = limit(most, json);
     let cases = told_cases(
-        alloc, &plain, outcome.place, &outcome.state, fixed, offers, most,
+        alloc,
+        &plain,
+        outcome.place,
+        &outcome.state,
+        fixed,
+        offers,
+        most,
     )?;
     let path = joined(alloc, left.path.as_slice(), settled.path.as_slice())?;
     let keys = path_keys(alloc, &path)?;

@@ -14,9 +14,9 @@ loop-index-preserved g c =
     let n = c.args.first in
     record {
       counted =
-      λ refused.
-      counted_more tree fs c.loop-index.index c.index-offers-index.result (length (applicable_from refused 0 (take n (waits_for tree)) (take n fs))) c.loop-index.count c.count_case-one.result c.requires.each c.loop-index-test.true c.index-offers-index.is
-      c.count_case-one.ensures.counts refused (c.loop-index.invariant.counted refused);
+          λ refused.
+          counted_more tree fs c.loop-index.index c.index-offers-index.result (length (applicable_from refused 0 (take n (waits_for tree)) (take n fs))) c.loop-index.count c.count_case-one.result c.requires.each c.loop-index-test.true c.index-offers-index.is
+          c.count_case-one.ensures.counts refused (c.loop-index.invariant.counted refused);
       below = omega arith;
     }
 

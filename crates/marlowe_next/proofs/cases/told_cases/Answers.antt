@@ -18,9 +18,9 @@ loop-index-preserved g c =
     let count : c.len.result ≡ length c.loop-index.told.items = omega (arith, c.len.ensures, c.loop-index.told.ok.0) in
     record {
       tells =
-      λ i from whole z.
-      told_more c.args.interval c.args.state.now (g.S.Parts.tree c.args.parts.now c.args.place) c.args.offers.now c.loop-index.index c.index-offers-index.result (seen_cases c.loop-index.told.items) (seen_if c.in_ok-case.case)
-      (seen_cases c.put_some.new.told.items) c.requires.offers c.loop-index-test.true c.index-offers-index.is c.in_ok-case.ensures c.in_ok-put_some.ensures i from whole z (c.loop-index.invariant.tells i from whole z);
+          λ i from whole z.
+          told_more c.args.interval c.args.state.now (g.S.Parts.tree c.args.parts.now c.args.place) c.args.offers.now c.loop-index.index c.index-offers-index.result (seen_cases c.loop-index.told.items) (seen_if c.in_ok-case.case)
+          (seen_cases c.put_some.new.told.items) c.requires.offers c.loop-index-test.true c.index-offers-index.is c.in_ok-case.ensures c.in_ok-put_some.ensures i from whole z (c.loop-index.invariant.tells i from whole z);
       within = room_more c.args.most c.loop-index.told.items c.put_some.new.told.items c.in_ok-case.case c.len.result c.loop-index.invariant.within count (sym c.is_full.ensures ∙ c.if-is_full.false) c.in_ok-put_some.ensures;
     }
 

@@ -14,6 +14,6 @@ invariant-loop-index g l =
     let c = g.S.Parts.tree l.parts l.place in
     record {
       tells : (i : Interval) (from : StateMaps) (whole : ContractTree) → SettlesTo i from whole l.interval l.state c
-        → seen_cases l.told.items ≡ applicable_from (refusal i from whole) 0 (take l.index (waits_for c)) (take l.index l.offers);
+          → seen_cases l.told.items ≡ applicable_from (refusal i from whole) 0 (take l.index (waits_for c)) (take l.index l.offers);
       within : IfSome l.most (λ m. length l.told.items ≤ m);
     }
