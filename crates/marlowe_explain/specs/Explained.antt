@@ -15,7 +15,7 @@ use Rattle.explain_transactions.specs.declared.explanation.Explanation.TheVarian
 use Rattle.explain_transactions.specs.Explained.{Explains}
 use Rattle.marlowe_next.specs.MarloweRun.Run.{within_127}
 use Rattle.marlowe_next.specs.declared.asked.Asked.{Asked}
-use Rattle.marlowe_next.specs.Answer.{IsAnswer}
+use Rattle.marlowe_next.specs.Answer.{IsAnswerUpTo}
 use Rattle.json_members.specs.declared.spelling.Spelling.{Spelling}
 use Rattle.marlowe_explain.specs.Spelled.{is_for_tools, invalid_told, past_told, ambiguous_told, value_told, sum_told, unmatched_told, useless_told}
 
@@ -23,10 +23,14 @@ use Rattle.marlowe_explain.specs.Spelled.{is_for_tools, invalid_told, past_told,
 abbrev pub asks_over : Spelling → Interval → Asked
 asks_over w j = record { from = Some j.from; to = Some j.to; readable = within_127 false; json = is_for_tools w }
 
+-- lines tell so many inputs at most
+abbrev pub most_inputs : ℕ
+most_inputs = 20
+
 -- a text tells what the part of a contract takes over an interval that is left at the end of a path
 abbrev pub IsNext : Spelling → Interval → ContractTree → Left → List ℕ → Type 0
 IsNext w j whole left text =
-    IsAnswer (asks_over w j) (Ok (record { whole = whole; path = left.path; there = standing left.state (contract_tree left.contract.now) })) text
+    IsAnswerUpTo (Some most_inputs) (asks_over w j) (Ok (record { whole = whole; path = left.path; there = standing left.state (contract_tree left.contract.now) })) text
 
 -- a text tells of the input at an index that no case takes it, and what the contract takes where it comes
 pub record TellsUnmatched (w : Spelling) (j : Interval) (c : ContractTree) (xs : List Input) (n : ℕ) (left : Left) (text : List ℕ) : Type 0 where

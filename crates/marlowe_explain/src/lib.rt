@@ -1,6 +1,6 @@
 //! Why a transaction is refused, as lines for people or as members of a JSON object for tools: `explained` takes a second look and
 //! writes what `explain_transactions` finds. The lines stand behind the line of the refusal, each indented by two blanks, and what can be
-//! done next by four.
+//! done next by four: of the inputs the first twenty, and how many more there are.
 #![tactic(auto)]
 
 mod faults;

@@ -14,7 +14,11 @@ use json_members::Spelling;
 use marlowe_next::{Asked, Left, PathStep, Readable, next_there};
 use std::alloc::{AllocError, Global};
 
-/// What the part of a contract takes that is left, over a fixed interval, as what can be done next is told.
+/// How many inputs lines tell at most, so that a terminal has room for what stands before them.
+const MOST_INPUTS: usize = 20;
+
+/// What the part of a contract takes that is left, over a fixed interval, as what can be done next is told: in lines the first inputs, and
+/// how many more there are, as members all.
 pub(crate) fn next_text(
     alloc: Global,
     contract: &Contract,
@@ -24,7 +28,8 @@ pub(crate) fn next_text(
 ) -> Result<Vec<u8>, Memory>
     ensures { IfOk result (λ text. IsNext spelling fixed (contract_tree contract.now) left.now text.items) }
 {
-    match next_there(alloc, contract, left, asks_over(spelling, fixed)) {
+    let asked = asks_over(spelling, fixed);
+    match next_there(alloc, contract, left, asked, MOST_INPUTS) {
         Ok(text) => Ok(text),
         Err(_) => Err(AllocError),
     }

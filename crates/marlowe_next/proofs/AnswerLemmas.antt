@@ -1,5 +1,5 @@
 -- One step of the question after another.
-use Rattle.std.proofs.Common.{◌≡◌, ◌≢◌, ℕ, suc, ◌+◌, ◌<◌, List, [], ◌∷◌, length, refl, arith, sym, ap, ◌∙◌, subst, Result, Ok, Err}
+use Rattle.std.proofs.Common.{◌≡◌, ◌≢◌, ℕ, suc, ◌+◌, ◌<◌, List, [], ◌∷◌, length, refl, arith, sym, ap, ◌∙◌, subst, Option, Result, Ok, Err}
 use Rattle.std.specs.Prelude.{IfOk}
 use Rattle.std.specs.declared.vec.Vec.{Vec}
 use Rattle.std.specs.declared.alloc.Global.{Global}
@@ -26,8 +26,8 @@ use Rattle.marlowe_run.specs.MarloweRefusals.Faults.{read_as, semantics_fault}
 use Rattle.marlowe_run.specs.MarloweRefusals.TraceFaults.{told_as, refused_fault}
 use Rattle.marlowe_next.specs.declared.asked.Asked.{Asked}
 use Rattle.marlowe_next.specs.Question.{Reached, reached_by, interval_at, answered}
-use Rattle.marlowe_next.specs.Answer.{IsAnswer}
-use Rattle.marlowe_next.specs.AnswerSupport.{Answers, TellsSettled}
+use Rattle.marlowe_next.specs.Answer.{IsAnswerUpTo}
+use Rattle.marlowe_next.specs.AnswerSupport.{Answers, AnswersUpTo, TellsSettled}
 
 abbrev Text : Type 0
 Text = Result (Vec ℕ Global) TraceFault
@@ -99,9 +99,9 @@ leads_badly q c s ts r g h e n =
 
 -- ---- the interval
 
-pub left_answer : (q : Asked) (r : Reached) (b : Standing) (i : Interval) (text : List ℕ) → i ≡ interval_at q r → answer_of (opening i r.there.state r.there.contract) ≡ Ok b → TellsSettled i r b q.json text → IsAnswer q (Ok r) text
-left_answer q r b i text e h t =
-    let told = subst (λ (j : Interval). TellsSettled j r b q.json text) e t in
+pub left_answer : (most : Option ℕ) (q : Asked) (r : Reached) (b : Standing) (i : Interval) (text : List ℕ) → i ≡ interval_at q r → answer_of (opening i r.there.state r.there.contract) ≡ Ok b → TellsSettled most i r b q.json text → IsAnswerUpTo most q (Ok r) text
+left_answer most q r b i text e h t =
+    let told = subst (λ (j : Interval). TellsSettled most j r b q.json text) e t in
     let stands = subst (λ (j : Interval). answer_of (opening j r.there.state r.there.contract) ≡ Ok b) e h in
     record { where_led = r; leads = refl; left = b; settles = ap (told_as (λ f. trace.Run (semantics_fault f))) stands; offers = told.0; offered = told.1; is = told.2 }
 
@@ -113,13 +113,13 @@ left_badly q r i f g e h is n =
 
 -- ---- both clauses
 
-pub texts_so : (q : Asked) (reached : Result Reached TraceFault) (text : Text) → Answers q reached text → IfOk text (λ t. IsAnswer q reached t.items)
-texts_so q reached (Ok t) h = h
-texts_so q reached (Err f) h = tt
+pub texts_so : (most : Option ℕ) (q : Asked) (reached : Result Reached TraceFault) (text : Text) → AnswersUpTo most q reached text → IfOk text (λ t. IsAnswerUpTo most q reached t.items)
+texts_so most q reached (Ok t) h = h
+texts_so most q reached (Err f) h = tt
 
-ends_well : (q : Asked) (reached : Result Reached TraceFault) (text : List ℕ) → IsAnswer q reached text → answered q reached ≡ Ok tt
-ends_well q reached text h = ap (answered q) h.leads ∙ ap (λ a. a >>= λ _. let e : Result (Unit {0}) TraceFault = Ok tt in e) h.settles
+ends_well : (most : Option ℕ) (q : Asked) (reached : Result Reached TraceFault) (text : List ℕ) → IsAnswerUpTo most q reached text → answered q reached ≡ Ok tt
+ends_well most q reached text h = ap (answered q) h.leads ∙ ap (λ a. a >>= λ _. let e : Result (Unit {0}) TraceFault = Ok tt in e) h.settles
 
-pub answers_so : (q : Asked) (reached : Result Reached TraceFault) (text : Text) → Answers q reached text → AsideBy (trace.Run run.Memory) (λ _. tt) text (answered q reached)
-answers_so q reached (Ok t) h = ends_well q reached t.items h
-answers_so q reached (Err f) h = h
+pub answers_so : (most : Option ℕ) (q : Asked) (reached : Result Reached TraceFault) (text : Text) → AnswersUpTo most q reached text → AsideBy (trace.Run run.Memory) (λ _. tt) text (answered q reached)
+answers_so most q reached (Ok t) h = ends_well most q reached t.items h
+answers_so most q reached (Err f) h = h

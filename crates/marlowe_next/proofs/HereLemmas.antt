@@ -1,5 +1,5 @@
 -- What is told of a contract that has settled.
-use Rattle.std.proofs.Common.{◌≡◌, ℕ, ℤ, Bool, true, false, List, [], ◌++◌, map, refl, sym, ap, ◌∙◌, Option, Result, Ok, Err, is_ok}
+use Rattle.std.proofs.Common.{◌≡◌, ℕ, ◌+◌, ◌-◌, ℤ, Bool, true, false, List, [], ◌++◌, length, map, refl, sym, ap, ◌∙◌, arith, Option, Some, None, Result, Ok, Err, is_ok}
 use Rattle.std.proofs.lemmas.Simd.{map-map}
 use Rattle.std.specs.Prelude.{◌↔◌, IsOk, IsTrue}
 use Rattle.contract.specs.declared.fault.SemFault.{SemFault}
@@ -16,9 +16,9 @@ use Rattle.trace.specs.Warned.{warned_at}
 use Rattle.places.specs.declared.key.Key.{Key}
 use Rattle.places.specs.Places.{path_keys}
 use Rattle.next_lines.specs.Applicable.{Applicable}
-use Rattle.next_lines.specs.Told.{Told}
-use Rattle.marlowe_next.specs.Answer.{warning_told}
-use Rattle.marlowe_next.specs.AnswerSupport.{under}
+use Rattle.next_lines.specs.Told.{Told, up_to}
+use Rattle.marlowe_next.specs.Answer.{warning_told, printed}
+use Rattle.marlowe_next.specs.AnswerSupport.{under, limit, spelled, TellsFirst}
 use Rattle.marlowe_next.proofs.UnderLemmas.{led_from, warned_from}
 
 -- where it stands
@@ -40,11 +40,25 @@ warned_here whole p i s c ws e =
     ∙ ap (map (warning_told whole)) (sym (warned_from p (trimmed i s) (begun i s) c))
 
 -- all of it
-pub same_told : (t u : Told) → t.path ≡ u.path → t.inputs ≡ u.inputs → t.until ≡ u.until → t.can_reduce ≡ u.can_reduce → t.payments ≡ u.payments → t.warned ≡ u.warned → t ≡ u
-same_told t u e f g h i j =
+same_told : (t u : Told) → t.path ≡ u.path → t.inputs ≡ u.inputs → t.more ≡ u.more → t.until ≡ u.until → t.can_reduce ≡ u.can_reduce → t.payments ≡ u.payments → t.warned ≡ u.warned → t ≡ u
+same_told t u e f m g h i j =
     ap (λ (x : List Key). record t { path = x }) e
     ∙ ap (λ (x : List Applicable). record t { path = u.path; inputs = x }) f
-    ∙ ap (λ (x : Option ℤ). record t { path = u.path; inputs = u.inputs; until = x }) g
-    ∙ ap (λ (x : Bool). record t { path = u.path; inputs = u.inputs; until = u.until; can_reduce = x }) h
-    ∙ ap (λ (x : List Payment). record t { path = u.path; inputs = u.inputs; until = u.until; can_reduce = u.can_reduce; payments = x }) i
+    ∙ ap (λ (x : ℕ). record t { path = u.path; inputs = u.inputs; more = x }) m
+    ∙ ap (λ (x : Option ℤ). record t { path = u.path; inputs = u.inputs; more = u.more; until = x }) g
+    ∙ ap (λ (x : Bool). record t { path = u.path; inputs = u.inputs; more = u.more; until = u.until; can_reduce = x }) h
+    ∙ ap (λ (x : List Payment). record t { path = u.path; inputs = u.inputs; more = u.more; until = u.until; can_reduce = u.can_reduce; payments = x }) i
     ∙ ap (λ (x : List (List Key × List ℕ)). record u { warned = x }) j
+
+-- .. with so many inputs at most
+pub same_up_to : (most : Option ℕ) (t u : Told) (inputs : List Applicable) → t.inputs ≡ inputs → TellsFirst most u.inputs inputs t.more → u.more ≡ 0 → t.path ≡ u.path → t.until ≡ u.until → t.can_reduce ≡ u.can_reduce → t.payments ≡ u.payments
+    → t.warned ≡ u.warned → t ≡ up_to most u
+same_up_to None t u inputs is h none e g b i j = same_told t u e (is ∙ h.0) (h.1 ∙ sym none) g b i j
+same_up_to (Some m) t u inputs is h none e g b i j =
+    let others : length u.inputs - m ≡ u.more + (length u.inputs - m) = omega arith in
+    same_told t (up_to (Some m) u) e (is ∙ h.0) (h.1 ∙ others) g b i j
+
+-- JSON tells all inputs
+pub spelled_so : (most : Option ℕ) (json : Bool) (t : Told) → spelled json (up_to (limit most json) t) ≡ printed most json t
+spelled_so most true t = refl
+spelled_so most false t = refl

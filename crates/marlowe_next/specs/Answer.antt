@@ -1,5 +1,5 @@
 -- What is printed where there is an answer.
-use Rattle.std.specs.Prelude.{◌≡◌, ℕ, Bool, true, false, List, [], map, Result, Ok, is_ok}
+use Rattle.std.specs.Prelude.{◌≡◌, ℕ, Bool, true, false, List, [], map, Option, None, Result, Ok, is_ok}
 use Rattle.contract.specs.declared.interval.Interval.{Interval}
 use Rattle.contract.specs.Tree.{ContractTree}
 use Rattle.marlowe_run.specs.Semantics.Evaluation.Path.{waits_for}
@@ -19,7 +19,7 @@ use Rattle.places.specs.Places.{path_keys, keys_of}
 use Rattle.places.specs.Texts.{kind_name}
 use Rattle.marlowe_next.specs.declared.asked.Asked.{Asked}
 use Rattle.marlowe_next.specs.Applicable.{refusal, applicable_from}
-use Rattle.next_lines.specs.Told.{Told}
+use Rattle.next_lines.specs.Told.{Told, up_to}
 use Rattle.next_lines.specs.Lines.{lines_of}
 use Rattle.next_lines.specs.Json.{json_line}
 use Rattle.marlowe_next.specs.Question.{Reached, interval_at, settled_of}
@@ -37,23 +37,28 @@ told_of i r b offers =
     record {
       path = path_keys (led r.path (opening i s c).turns);
       inputs = applicable_from (refusal i s c) 0 (waits_for b.contract) offers;
+      more = 0;
       until = waits_until b.contract;
       can_reduce = is_ok (answer_of (computed i s c []));
       payments = (opening i s c).payments;
       warned = map (warning_told r.whole) (warned_at (settling r.path (trimmed i s) (begun i s) c));
     }
 
--- one line of JSON, or lines for people
-abbrev pub printed : Bool → Told → List ℕ
-printed true t = json_line t
-printed false t = lines_of t
+-- one line of JSON, which tells all inputs, or lines for people, which tell all of them or so many at most
+abbrev pub printed : Option ℕ → Bool → Told → List ℕ
+printed most true t = json_line t
+printed most false t = lines_of (up_to most t)
 
--- a text answers what is asked of a contract where transactions have led: it tells what the cases offer
-pub record IsAnswer (q : Asked) (reached : Result Reached TraceFault) (text : List ℕ) : Type 0 where
+-- a text answers what is asked of a contract where transactions have led: it tells what the cases offer, in lines so many inputs at most
+pub record IsAnswerUpTo (most : Option ℕ) (q : Asked) (reached : Result Reached TraceFault) (text : List ℕ) : Type 0 where
   pub where_led : Reached
   pub leads : reached ≡ Ok where_led
   pub left : Standing
   pub settles : settled_of q where_led ≡ Ok left
   pub offers : List Offer
   pub offered : AreOffers (trimmed (interval_at q where_led) where_led.there.state) left.state (waits_for left.contract) offers
-  pub is : text ≡ printed q.json (told_of (interval_at q where_led) where_led left offers)
+  pub is : text ≡ printed most q.json (told_of (interval_at q where_led) where_led left offers)
+
+-- .. also in lines all inputs
+abbrev pub IsAnswer : Asked → Result Reached TraceFault → List ℕ → Type 0
+IsAnswer q reached text = IsAnswerUpTo None q reached text

@@ -1,11 +1,11 @@
 //! What can be done next, from text to text.
-ghost use Rattle.std.specs.Prelude.{◌≡◌, ◌≢◌, ◌+◌, ◌<◌, IfOk, Ok};
+ghost use Rattle.std.specs.Prelude.{◌≡◌, ◌≢◌, ◌+◌, ◌<◌, IfOk, Ok, Some};
 ghost use Rattle.contract.specs.Collections.Answers.{AsideBy};
 ghost use Rattle.contract.specs.Tree.{contract_tree};
 ghost use Rattle.marlowe_run.specs.MarloweRefusals.TraceFaults.{refused_fault};
 ghost use Rattle.marlowe_next.specs.Question.{answered, reached_at, reached_by, reached_from, reached_given, reached_with, text_given, texts_given};
-ghost use Rattle.marlowe_next.specs.Answer.{IsAnswer};
-ghost use Rattle.marlowe_next.specs.AnswerSupport.{Answers};
+ghost use Rattle.marlowe_next.specs.Answer.{IsAnswer, IsAnswerUpTo};
+ghost use Rattle.marlowe_next.specs.AnswerSupport.{Answers, AnswersUpTo};
 
 use crate::asked::{Asked, interval_of};
 use crate::told_here::settled_text;
@@ -51,19 +51,21 @@ pub fn next_after(
     from_transactions(alloc, whole, start, transactions, asked)
 }
 
-/// The same of a part of a contract that is left at the end of a path: what `next` prints once transactions have led there. The fault
-/// is that of the interval, or `Memory`.
+/// The same of a part of a contract that is left at the end of a path: what `next` prints once transactions have led there. Only of the
+/// inputs lines tell so many at most, the first, and then how many more there are. What follows the others isn't computed, so this takes
+/// time for the cases and for what follows so many of them. The fault is that of the interval, or `Memory`.
 pub fn next_there(
     alloc: Global,
     whole: &Contract,
     left: &Left<'_>,
     asked: Asked,
+    most: usize,
 ) -> Result<Vec<u8>, TraceFault>
-    ensures text { IfOk result (λ text. IsAnswer asked (Ok (reached_at whole.now left.now)) text.items) }
+    ensures text { IfOk result (λ text. IsAnswerUpTo (Some most) asked (Ok (reached_at whole.now left.now)) text.items) }
     ensures answer { AsideBy (TraceFault.Run RunFault.Memory) (λ _. tt) result
         (answered asked (Ok (reached_at whole.now left.now))) }
 {
-    from_left(alloc, whole, left, asked)
+    from_left(alloc, whole, left, asked, Some(most))
 }
 
 // The contract is read first.
@@ -136,7 +138,7 @@ fn from_transactions(
     let count = transactions.len();
     match trace::after(alloc, whole, start, transactions) {
         Ok(left) => {
-            let text = from_left(alloc, whole, &left, asked);
+            let text = from_left(alloc, whole, &left, asked, None);
             beside_dropped(left, text)
         }
         Err(refused) => Err(fault_of(refused, count)),
@@ -160,13 +162,14 @@ fn from_left(
     whole: &Contract,
     left: &Left<'_>,
     asked: Asked,
+    most: Option<usize>,
 ) -> Result<Vec<u8>, TraceFault>
-    ensures { Answers asked (Ok (reached_at whole.now left.now)) result }
+    ensures { AnswersUpTo most asked (Ok (reached_at whole.now left.now)) result }
 {
     let interval = interval_of(asked, &left.state);
     match settle(alloc, left.contract, &left.state, interval) {
         Ok(settled) => {
-            let text = settled_text(alloc, whole, left, interval, &settled, asked.json);
+            let text = settled_text(alloc, whole, left, interval, &settled, asked.json, most);
             let text = beside_dropped(settled, text)?;
             Ok(text)
         }

@@ -5,7 +5,7 @@ ghost use Rattle.marlowe_run.specs.Semantics.Walk.{standing};
 ghost use Rattle.marlowe_next.specs.Answer.{printed, told_of, warning_told};
 ghost use Rattle.marlowe_next.specs.Question.{reached_at};
 ghost use Rattle.next_lines.specs.Seen.{IsMoment, seen, seen_warning};
-ghost use Rattle.marlowe_next.specs.AnswerSupport.{HasSettled, TellsSettled, AreOffersThere, under, warnings_under};
+ghost use Rattle.marlowe_next.specs.AnswerSupport.{HasSettled, TellsSettled, AreOffersThere, limit, spelled, under, warnings_under};
 
 use crate::asked::fixed;
 use crate::cases::told_cases;
@@ -18,7 +18,7 @@ use places::{keys_of, path_keys, warning_name};
 use std::alloc::Global;
 use trace::{Left, Settled, Warned};
 
-/// The text of a contract that has settled over an interval.
+/// The text of a contract that has settled over an interval: JSON, or lines that tell so many inputs at most.
 pub(crate) fn settled_text(
     alloc: Global,
     whole: &Contract,
@@ -26,9 +26,10 @@ pub(crate) fn settled_text(
     interval: Interval,
     settled: &Settled<'_>,
     json: bool,
+    most: Option<usize>,
 ) -> Result<Vec<u8>, Memory>
     requires { HasSettled interval (standing left.now.state (contract_tree left.now.contract.now)) settled.now }
-    ensures { IfOk result (λ text. TellsSettled interval (reached_at whole.now left.now)
+    ensures { IfOk result (λ text. TellsSettled most interval (reached_at whole.now left.now)
         (standing settled.now.outcome.state (contract_tree settled.now.outcome.place.now)) json text.items) }
 {
     let fixed = fixed(interval, &left.state);
@@ -42,6 +43,7 @@ pub(crate) fn settled_text(
         settled,
         offers.as_slice(),
         json,
+        most,
     );
     beside_dropped(offers, text)
 }
@@ -55,16 +57,26 @@ fn offered_text(
     settled: &Settled<'_>,
     offers: &[Offer],
     json: bool,
+    most: Option<usize>,
 ) -> Result<Vec<u8>, Memory>
     requires settled { HasSettled interval (standing left.now.state (contract_tree left.now.contract.now)) settled.now }
     requires offers { AreOffersThere interval left.now settled.now offers.now }
-    ensures { IfOk result (λ text. text.items ≡ printed json (told_of interval (reached_at whole.now left.now)
+    ensures { IfOk result (λ text. text.items ≡ printed most json (told_of interval (reached_at whole.now left.now)
         (standing settled.now.outcome.state (contract_tree settled.now.outcome.place.now)) offers.now)) }
 {
     let fixed = fixed(interval, &left.state);
     let plain = Plain::new();
     let outcome = &settled.outcome;
-    let cases = told_cases(alloc, &plain, outcome.place, &outcome.state, fixed, offers)?;
+    let most = limit(most, json);
+    let cases = told_cases(
+        alloc,
+        &plain,
+        outcome.place,
+        &outcome.state,
+        fixed,
+        offers,
+        most,
+    )?;
     let path = joined(alloc, left.path.as_slice(), settled.path.as_slice())?;
     let keys = path_keys(alloc, &path)?;
     let warned = told_warnings(
@@ -75,13 +87,21 @@ fn offered_text(
     )?;
     let told = ToldHere {
         path: &keys,
-        cases: &cases,
+        cases: &cases.told,
+        more: cases.more,
         until: waits_until(&plain, outcome.place),
         can_reduce: settled.can_reduce,
         payments: outcome.payments.as_slice(),
         warned: &warned,
     };
     printed(alloc, told, json)
+}
+
+// How many inputs are told at most: of JSON all.
+fn limit(most: Option<usize>, json: bool) -> Option<usize>
+    ensures { result ≡ limit most json }
+{
+    if json { None } else { most }
 }
 
 // One path behind another.
@@ -127,7 +147,7 @@ fn told_warning(
 // One line of JSON, or lines for people.
 fn printed(alloc: Global, told: ToldHere<'_>, json: bool) -> Result<Vec<u8>, Memory>
     requires { IfSome told.until IsMoment }
-    ensures { IfOk result (λ text. text.items ≡ printed json (seen told.entry)) }
+    ensures { IfOk result (λ text. text.items ≡ spelled json (seen told.entry)) }
 {
     if json {
         told_json(alloc, told)

@@ -41,9 +41,9 @@ until_pieces a b c d x path keys rest e f g =
     three_pieces a b c d x (place_text path) (place_text keys ++ rest) e f g
     ∙ ap (λ z. a ++ (x ++ z)) (sym (append_assoc (place_text path) (place_text keys) rest) ∙ ap (λ z. z ++ rest) (sym (flat_map-append key_text path keys)))
 
--- what applies, until when, and payments
-pub waiting_pieces : {X Y : Type 0} (f : Y → List ℕ) (g : X → Y) (xs : List X) (a b c d y z : List ℕ) → b ≡ a ++ flat_map (λ x. f (g x)) xs → c ≡ b ++ y → d ≡ c ++ z → d ≡ a ++ (flat_map f (map g xs) ++ (y ++ z))
-waiting_pieces f g xs a b c d y z e h k = three_pieces a b c d (flat_map f (map g xs)) y z (e ∙ ap (λ w. a ++ w) (sym (flat_map-map f g xs))) h k
+-- what applies, how many more, until when, and payments
+pub waiting_pieces : {X Y : Type 0} (f : Y → List ℕ) (g : X → Y) (xs : List X) (a b m c d x y z : List ℕ) → b ≡ a ++ flat_map (λ x. f (g x)) xs → m ≡ b ++ x → c ≡ m ++ y → d ≡ c ++ z → d ≡ a ++ (flat_map f (map g xs) ++ (x ++ (y ++ z)))
+waiting_pieces f g xs a b m c d x y z e i h k = four_pieces a b m c d (flat_map f (map g xs)) x y z (e ∙ ap (λ w. a ++ w) (sym (flat_map-map f g xs))) i h k
 
 -- a deposit that isn't taken
 pub leaving_pieces : (p q a b t u line : List ℕ) → line ≡ codes "deposit by " ++ (p ++ (codes " into " ++ (a ++ (codes " of " ++ (t ++ codes ": Leaves128\n"))))) → p ≡ q → a ≡ b → t ≡ u

@@ -3,7 +3,7 @@ use Rattle.std.proofs.Common.{refl}
 use Rattle.std.specs.Fmt.{digits}
 use Rattle.json.proofs.OnLiterals.{json_on_literals}
 use Rattle.hex.proofs.OnLiterals.{hex_on_literals}
-use Rattle.next_lines.specs.Rows.{DepositsAreTold, ChoicesAndNotifiesAreTold, TheWayIsTold, ClosingIsTold, AllIsToldInOrder, DepositsAreWritten, ChoicesAreWritten, AllIsWritten}
+use Rattle.next_lines.specs.Rows.{DepositsAreTold, ChoicesAndNotifiesAreTold, TheWayIsTold, ClosingIsTold, AllIsToldInOrder, TheFirstAreTold, DepositsAreWritten, ChoicesAreWritten, AllIsWritten}
 
 pub deposits_are_told : DepositsAreTold
 unfolding digits json_on_literals hex_on_literals
@@ -24,6 +24,10 @@ closing_is_told = (refl, refl, refl)
 pub all_is_told_in_order : AllIsToldInOrder
 unfolding digits json_on_literals hex_on_literals
 all_is_told_in_order = refl
+
+pub the_first_are_told : TheFirstAreTold
+unfolding digits json_on_literals hex_on_literals
+the_first_are_told = (refl, refl, refl, refl, refl)
 
 pub deposits_are_written : DepositsAreWritten
 unfolding digits json_on_literals hex_on_literals

@@ -1,4 +1,4 @@
--- The JSON for tools. The keys of each object stand in the order of their bytes.
+-- The JSON for tools. The keys of each object stand in the order of their bytes. Tools are told all inputs, so no key says how many more apply.
 use Rattle.std.specs.Prelude.{ℕ, ℤ, pos, int_le, false, List, [], ◌∷◌, ◌++◌, map, flat_map, Option, Some, None, codes}
 use Rattle.serde_json.specs.Data.{Data, null, boolean, string, array, object, no_members, member}
 use Rattle.serde_json.specs.View.{items_of}

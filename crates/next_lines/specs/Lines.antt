@@ -1,5 +1,5 @@
 -- The lines for people.
-use Rattle.std.specs.Prelude.{ℕ, ℤ, pos, ◌+ℤ◌, int_le, Bool, true, false, List, [], ◌∷◌, ◌++◌, flat_map, if◌then◌else◌, Option, Some, None, codes}
+use Rattle.std.specs.Prelude.{ℕ, ◌==◌, ℤ, pos, ◌+ℤ◌, int_le, Bool, true, false, List, [], ◌∷◌, ◌++◌, flat_map, if◌then◌else◌, Option, Some, None, codes, decimal}
 use Rattle.std.specs.List.{join_by}
 use Rattle.std.specs.Ordering.{int_eq}
 use Rattle.std.specs.Fmt.{signed_decimal}
@@ -66,6 +66,10 @@ input_line path (notifies n refused) = codes "notify" ++ then_text path n refuse
 input_line path (deposit_leaves n a p t) = leaving_line a p t
 input_line path (notify_leaves n) = codes "notify: Leaves128" ++ 10 ∷ []
 
+-- how many more apply, where some aren't told
+abbrev pub more_line : ℕ → List ℕ
+more_line more = if more == 0 then [] else codes ".. and " ++ (decimal more ++ codes " more: marlowe next lists all\n")
+
 -- ---- until when it waits, and what came on the way
 
 -- the last moment, and what follows from the next on
@@ -90,7 +94,7 @@ closes_line true (p ∷ ps) = codes "closes, and pays " ++ (join_by payment_text
 -- ---- all lines
 
 abbrev pub stands_lines : Option ℤ → Told → List ℕ
-stands_lines (Some last) t = flat_map (input_line t.path) t.inputs ++ (waits_line t.path last ++ flat_map payment_line t.payments)
+stands_lines (Some last) t = flat_map (input_line t.path) t.inputs ++ (more_line t.more ++ (waits_line t.path last ++ flat_map payment_line t.payments))
 stands_lines None t = closes_line t.can_reduce t.payments
 
 abbrev pub lines_of : Told → List ℕ

@@ -11,8 +11,8 @@ use Rattle.contract.specs.declared.fault.SemFault.TheVariants.{Ambiguous}
 use Rattle.contract.specs.declared.payment.Payment.{Payment}
 use Rattle.places.specs.declared.key.Key.TheVariants as keys
 use Rattle.next_lines.specs.Applicable.{Applicable, deposits, chooses, notifies, deposit_leaves, notify_leaves}
-use Rattle.next_lines.specs.Told.{Told}
-use Rattle.next_lines.specs.Lines.{input_line, waits_line, payment_line, warning_line, closes_line, lines_of}
+use Rattle.next_lines.specs.Told.{Told, up_to}
+use Rattle.next_lines.specs.Lines.{input_line, more_line, waits_line, payment_line, warning_line, closes_line, lines_of}
 use Rattle.next_lines.specs.Json.{deposit_json, choice_json, told_json}
 
 abbrev pub party_a : Party
@@ -69,12 +69,23 @@ ClosingIsTold =
 
 -- it waits until 99 for a notify, and has paid and warned before
 abbrev pub on_the_way : Told
-on_the_way = record { path = keys.Then ∷ []; inputs = notifies 0 None ∷ notify_leaves 1 ∷ []; until = Some (pos 99); can_reduce = true; payments = pays (pos 5) ada ∷ []; warned = (keys.Pay ∷ [], codes "PartialPay") ∷ [] }
+on_the_way = record { path = keys.Then ∷ []; inputs = notifies 0 None ∷ notify_leaves 1 ∷ []; more = 0; until = Some (pos 99); can_reduce = true; payments = pays (pos 5) ada ∷ []; warned = (keys.Pay ∷ [], codes "PartialPay") ∷ [] }
 
 abbrev pub AllIsToldInOrder : Type 0
 AllIsToldInOrder =
     lines_of on_the_way
     ≡ codes "notify, then .then.when[0].then\nnotify: Leaves128\nwaits until 99; from 100 on .then.timeout_continuation\npays on the way 5 ADA from {\"role_token\":\"a\"} to {\"party\":{\"role_token\":\"b\"}}\nwarns on the way: PartialPay at .pay\n"
+
+-- of its two inputs none is told, or the first. Or both, and then there are no more
+abbrev pub TheFirstAreTold : Type 0
+TheFirstAreTold =
+    IsLine (more_line 6781) (codes ".. and 6781 more: marlowe next lists all")
+    × (lines_of (up_to (Some 0) on_the_way)
+    ≡ codes ".. and 2 more: marlowe next lists all\nwaits until 99; from 100 on .then.timeout_continuation\npays on the way 5 ADA from {\"role_token\":\"a\"} to {\"party\":{\"role_token\":\"b\"}}\nwarns on the way: PartialPay at .pay\n")
+    × (lines_of (up_to (Some 1) on_the_way)
+    ≡ codes "notify, then .then.when[0].then\n.. and 1 more: marlowe next lists all\nwaits until 99; from 100 on .then.timeout_continuation\npays on the way 5 ADA from {\"role_token\":\"a\"} to {\"party\":{\"role_token\":\"b\"}}\nwarns on the way: PartialPay at .pay\n")
+    × (up_to (Some 2) on_the_way ≡ on_the_way)
+    × (up_to None on_the_way ≡ on_the_way)
 
 -- ---- JSON
 

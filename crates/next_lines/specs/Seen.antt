@@ -29,7 +29,7 @@ abbrev pub seen_warning : ToldWarning → List Key × List ℕ
 seen_warning w = (w.place.items, w.name.now)
 
 abbrev pub seen : ToldHere → Told
-seen t = record { path = t.path.now; inputs = seen_cases t.cases.now; until = t.until; can_reduce = t.can_reduce; payments = t.payments.now; warned = map seen_warning t.warned.now }
+seen t = record { path = t.path.now; inputs = seen_cases t.cases.now; more = t.more; until = t.until; can_reduce = t.can_reduce; payments = t.payments.now; warned = map seen_warning t.warned.now }
 
 -- a moment before the last of 64 bits
 abbrev pub IsMoment : ℤ → Type 0

@@ -1,19 +1,19 @@
 //! Lines for people.
 ghost use Rattle.std.specs.Prelude.{◌≡◌, ◌++◌, flat_map, IfOk, IfSome, OnOk, Some, string_bytes};
-ghost use Rattle.next_lines.specs.Lines.{lines_of, stands_lines, input_line, deposit_text, choice_text, leaving_line, then_text, times_text, waits_line, closes_line, payment_line, warning_line};
+ghost use Rattle.next_lines.specs.Lines.{lines_of, stands_lines, input_line, more_line, deposit_text, choice_text, leaving_line, then_text, times_text, waits_line, closes_line, payment_line, warning_line};
 ghost use Rattle.next_lines.specs.Seen.{IsMoment, seen, seen_deposit, seen_case, seen_warning};
 
 use crate::pieces::{put_bytes, put_joined};
 use crate::told::{CaseTold, Deposit, ToldHere, ToldWarning};
-use crate::words::{deposit_text, leaving_line, payment_line, refused_text};
+use crate::words::{deposit_text, leaving_line, more_line, payment_line, refused_text};
 use contract::{Bound, ChoiceId, Items, Memory, Party, Payment, SemFault, Token};
 use json_write_contracts::term_text;
 use places::{Key, put_place};
 use std::alloc::Global;
 
-/// The lines for people: one for each case that takes an input or whose number leaves 128 bits, the moment until which the
-/// contract waits, and one for each payment and warning. Of a contract that closes there is one line in place of the cases, the moment and the
-/// payments.
+/// The lines for people: one for each case that takes an input or whose number leaves 128 bits; where not all are told, how many more
+/// there are; the moment until which the contract waits; and one for each payment and warning. Of a contract that closes there is one line
+/// in place of the cases, the moment and the payments.
 pub fn told_lines(alloc: Global, told: ToldHere<'_>) -> Result<Vec<u8>, Memory>
     requires { IfSome told.until IsMoment }
     ensures { IfOk result (λ text. text.items ≡ lines_of (seen told.entry)) }
@@ -45,6 +45,7 @@ fn put_waiting(
     ensures { OnOk result (out.new.items ≡ out.old.items ++ stands_lines (Some last) (seen told.entry)) }
 {
     put_cases(alloc, out, told.path, told.cases)?;
+    put_more(alloc, out, told.more)?;
     put_until(alloc, out, told.path, last)?;
     put_payments(alloc, out, told.payments)
 }
@@ -143,6 +144,14 @@ fn put_then(
     put_bytes(out, b", then ")?;
     put_place(alloc, out, path)?;
     put_bytes(out, end.as_bytes())
+}
+
+// How many more cases take an input, if there are more.
+fn put_more(alloc: Global, out: &mut Vec<u8>, more: usize) -> Result<(), Memory>
+    ensures { OnOk result (out.new.items ≡ out.old.items ++ more_line more) }
+{
+    let line = more_line(alloc, more)?;
+    put_bytes(out, line.as_bytes())
 }
 
 // Until when it waits, and what follows from then on.

@@ -43,6 +43,8 @@ pub struct ToldHere<'a> {
     pub path: &'a [Key],
     /// What is told of its cases, in order.
     pub cases: &'a [CaseTold<'a>],
+    /// How many more of them take an input than are told. Lines say so; JSON, which is of all cases, doesn't.
+    pub more: usize,
     /// The last moment at which it waits, in POSIX milliseconds: none where it closes.
     pub until: Option<i128>,
     /// Whether a transaction without inputs is accepted.

@@ -1,6 +1,6 @@
 //! What stands inside a line.
 ghost use Rattle.std.specs.Prelude.{◌≡◌, ◌++◌, IfOk, codes, string_bytes};
-ghost use Rattle.next_lines.specs.Lines.{money_text, bound_text, payment_text, warns_text, deposit_text, leaving_line, payment_line, refused_text};
+ghost use Rattle.next_lines.specs.Lines.{money_text, bound_text, payment_text, warns_text, deposit_text, leaving_line, more_line, payment_line, refused_text};
 ghost use Rattle.next_lines.specs.Seen.{seen_deposit};
 
 use crate::pieces::Piece;
@@ -78,6 +78,17 @@ pub(crate) fn leaving_line(
     let account = term_text(alloc, account)?;
     let token = token_text(alloc, token)?;
     format!(in alloc; "deposit by {party} into {account} of {token}: Leaves128\n")
+}
+
+/// The line that says how many more cases take an input; none where there are no more.
+pub(crate) fn more_line(alloc: Global, more: usize) -> Result<String, Memory>
+    ensures { IfOk result (λ text. string_bytes text ≡ more_line more) }
+{
+    if more == 0 {
+        Ok(String::new(alloc))
+    } else {
+        format!(in alloc; ".. and {more} more: marlowe next lists all\n")
+    }
 }
 
 /// The line of a payment of the reduction before the inputs.

@@ -17,8 +17,8 @@ returns-in_ok-text-in-Ok c =
     let r = reached_at c.args.whole.now c.args.left.now in
     let b = standing c.in-Ok.settled.outcome.state (contract_tree c.in-Ok.settled.outcome.place.now) in
     let is = sym c.beside_dropped.ensures ∙ c.in_ok-text-in-Ok.was in
-    let told = subst (λ (t : Result (Vec ℕ Global) AllocError). IfOk t (λ text. TellsSettled i r b c.args.asked.json text.items)) is c.settled_text-text.ensures in
-    left_answer c.args.asked r b i c.in_ok-text-in-Ok.text.items c.interval_of-interval.ensures c.in-Ok.ensures.answer told
+    let told = subst (λ (t : Result (Vec ℕ Global) AllocError). IfOk t (λ text. TellsSettled c.args.most i r b c.args.asked.json text.items)) is c.settled_text-text.ensures in
+    left_answer c.args.most c.args.asked r b i c.in_ok-text-in-Ok.text.items c.interval_of-interval.ensures c.in-Ok.ensures.answer told
 
 pub returns-in-Err : goal.returns-in-Err
 returns-in-Err c =
