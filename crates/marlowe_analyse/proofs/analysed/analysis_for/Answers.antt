@@ -4,7 +4,7 @@ use Rattle.marlowe_analyse.proofs.analysed.analysis_for.Goals as goal
 
 pub returns-in-Some : goal.returns-in-Some
 returns-in-Some c =
-    tells_of_party c.args.telling c.args.given c.args.party.now c.in-Some.party.now c.args.state.now (contract_tree c.args.contract.now) c.in_ok-told.told c.in_ok-told.kept c.with_party.result c.in-Some.is
+    tells_of_party c.args.telling c.args.given c.args.party.now c.in-Some.party c.args.state.now (contract_tree c.args.contract.now) c.in_ok-told.told c.in_ok-told.kept c.with_party.result c.in-Some.is
     c.in_ok-told.ensures.told c.in_ok-told.ensures.kept c.with_party.ensures
 
 pub returns-in-None : goal.returns-in-None
