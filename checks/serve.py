@@ -105,6 +105,7 @@ def spoilt(value):
             json.dumps(other, allow_nan=False)
             return other
         except (ValueError, RecursionError): pass
+PARTIES = [*compare.PARTIES, {"role_token": "nobody"}, {"role": "a"}, 7, None]
 def others(contract, state, transaction):
     """Requests whose answers only the command has."""
     parts = {"contract": contract, "state": state}
@@ -119,7 +120,9 @@ def others(contract, state, transaction):
         many.insert(R.randrange(len(many) + 1), spoilt(transaction))
         return {"trace": {**parts, "transactions": many}} if sort == 4 else {"next": {**parts, "after": many}}
     if sort == 0: return {"next": {**parts, "after": [transaction] * R.randrange(2), **R.choice([{}, {"from": 3}, {"from": 3, "to": 9}])}}
-    return {"table": {"contract": contract}} if sort == 1 else {"analyse": {**parts, "no_runs": R.random() < 0.5, "notes": R.random() < 0.5}}
+    if sort == 1: return {"table": {"contract": contract}}
+    party = R.choice([{}, {"party": R.choice(PARTIES)}])
+    return {"analyse": {**parts, "no_runs": R.random() < 0.5, "notes": R.random() < 0.5, **party}}
 class Differs(Exception): pass
 OF_TEXTS = ("file", "line", "column", "first", "names")
 def stands_so(told, other):
@@ -147,6 +150,7 @@ def words_of(name, body, path):
     if name == "run": words += [path("state"), path("transaction")]
     if name == "next": words += [path("state")]
     if name == "analyse": words += [path("state")] + ["--no-runs"] * body["no_runs"] + ["--notes"] * body["notes"]
+    if "party" in body: words += ["--party", json.dumps(body["party"])]
     if name == "trace": words += [path("transactions"), "--state", path("state")]
     if name == "next" and body["after"]: words += ["--after", path("after")]
     for key in ("from", "to"): words += [f"--{key}", str(body[key])] if key in body else []
