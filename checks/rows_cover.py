@@ -124,7 +124,7 @@ LEFT = {
     "fault ReadFault::Memory": MEMORY,
     "call contract_json::read_contract_within": COMMANDED,
     "call json_read_scenarios::read_scenario_within": COMMANDED,
-    "call marlowe_analyse::analysis_text": COMMANDED,
+    "call marlowe_analyse::analysis_for": COMMANDED,
     "call marlowe_play::play_watched": "it is the call that is asked more, asked nothing more, which each row of `marlowe play` calls",
     "call marlowe_run::printed_table": COMMANDED,
     "call marlowe_run::run_with_texts": WITHIN,
