@@ -1,5 +1,5 @@
 -- What moving an amount does to what is known.
-use Rattle.std.proofs.Common.{◌≡◌, ℕ, ℤ, pos, ◌+ℤ◌, ◌-ℤ◌, ◌≤ℤ◌, Bool, true, false, cond, List, ◌∷◌, refl, sym, ap, ◌∙◌, subst, arith, Option, Some}
+use Rattle.std.proofs.Common.{◌≡◌, ℕ, ◌≤◌, ℤ, pos, ◌+ℤ◌, ◌-ℤ◌, ◌≤ℤ◌, Bool, true, false, cond, List, ◌∷◌, refl, sym, ap, ◌∙◌, subst, arith, Option, Some}
 use Rattle.std.proofs.lemmas.Int.{ints}
 use Rattle.std.specs.Option.{unwrap_or}
 use Rattle.std.specs.Ordering.{eq_by_cmp}
@@ -16,7 +16,7 @@ use Rattle.contract.specs.States.States.{StateMaps, with_money}
 use Rattle.semantics.specs.Evaluation.Numbers.{fits}
 use Rattle.semantics.specs.Reduction.{account_of, balance, debited, credited}
 use Rattle.linear.specs.Linear.{Linear, Valuation, number_at, IsBelow, number, Agree}
-use Rattle.symbols.specs.Symbols.{IsValued, Gives}
+use Rattle.symbols.specs.Symbols.{Symbols, IsValued, Gives}
 use Rattle.linear.proofs.LinearLaws.{same_number}
 use Rattle.symbols.proofs.KnownLaws.{terms_more, below_more, up_more}
 use Rattle.analysis_spec.specs.Runs.{paid_to}
@@ -26,6 +26,8 @@ use Rattle.analysis_values.proofs.KnownLaws.{found_below, sees_more, same_seen}
 use Rattle.analysis_values.proofs.AccountLaws.{amount_seen, same_money_seen, allowed_below, sum_natural, account_decides, share_is}
 use Rattle.analysis_values.proofs.AnsweredLaws.{goes_fitting}
 use Rattle.analysis_values.specs.Answered.{StaysWhereSaid}
+use Rattle.analysis_values.specs.Replaced.{IsAsKnown}
+use Rattle.analysis_values.proofs.ReplacedLaws.{described_as}
 use Rattle.analysis_steps.specs.Amounts.{amount_paid, GivesPaid, GivesSum, GivesRest}
 use Rattle.analysis_steps.specs.Moved.{Reaches, IsSaidToFit, Debits, Grows, PaysMore, PaysOut, Moves, Transfers}
 use Rattle.analysis_steps.proofs.AmountLemmas.{paid_natural, paid_up}
@@ -52,6 +54,14 @@ reaches_then scope k z m r i j s u ps qs g h = record {
   grows = up_more k.symbols.next z.symbols.next m.symbols.next g.grows h.grows;
   described = h.described;
   agrees = λ x l. h.agrees x (below_more x k.symbols.next z.symbols.next l g.grows) ∙ g.agrees x l;
+}
+
+-- .. told by other entries
+reaches_as : (scope : Scope) (k m n : Known) (r : Valuation) (i : Interval) (s : StateMaps) (ps : List Payment) → IsAsKnown m n → Reaches scope k r m i s ps → Reaches scope k r n i s ps
+reaches_as scope k m n r i s ps h g = record {
+  grows = subst (λ (x : Symbols). k.symbols.next ≤ x.next) (sym h.symbols) g.grows;
+  described = described_as scope m n i s ps h g.described;
+  agrees = g.agrees;
 }
 
 -- an expression still has its number
@@ -95,6 +105,9 @@ debits_by k z m p t l b e is rest same set scope i s ps n d below number natural
       agrees = g.agrees;
     })
 
+pub debits_as : (k m n : Known) (p : Party) (t : Token) (l : Linear) → IsAsKnown m n → Debits k m p t l → Debits k n p t l
+debits_as k m n p t l h f scope i s ps x d below number natural up = reaches_as scope k m n d.numbers i (debited s p t x) ps h (f scope i s ps x d below number natural up)
+
 -- ---- the payee's account
 
 pub grows_by : (k z m : Known) (p : Party) (t : Token) (l b e : Linear) (fit : Bool) → b ≡ held k.view.accounts (account_of p t) → GivesSum k.symbols z.symbols b l e → z.view ≡ k.view
@@ -122,6 +135,11 @@ grows_by k z m p t l b e fit is sum same stays set scope i s ps n d below number
             agrees = g.agrees;
           });
     }
+
+pub grows_as : (k m n : Known) (p : Party) (t : Token) (l : Linear) (fit : Bool) → IsAsKnown m n → Grows k m p t l fit → Grows k n p t l fit
+grows_as k m n p t l fit h f scope i s ps x d below number natural =
+    let g = f scope i s ps x d below number natural in
+    record { sum = g.sum; known = λ a. reaches_as scope k m n d.numbers i (with_money s (account_of p t) (balance s p t +ℤ x)) ps h (g.known a) }
 
 -- ---- what a party is paid
 
@@ -182,6 +200,9 @@ pays_out_by k z m p t l b e is sum same set scope i s ps qs n d below number pay
       };
       agrees = g.agrees;
     })
+
+pub pays_out_as : (k m n : Known) (p : Party) (t : Token) (l : Linear) → IsAsKnown m n → PaysOut k m p t l → PaysOut k n p t l
+pays_out_as k m n p t l h f scope i s ps qs x d below number pays = reaches_as scope k m n d.numbers i s qs h (f scope i s ps qs x d below number pays)
 
 -- ---- both
 

@@ -1,9 +1,11 @@
 pub mod KnownLaws
 pub mod AccountLaws
 pub mod AnsweredLaws
+pub mod ReplacedLaws
 mod StepLemmas
 mod TruthLemmas
 mod TimeLemmas
 mod LookupLemmas
 mod NumberedLemmas
 mod JunctionLemmas
+mod BoundLemmas

@@ -1,7 +1,15 @@
-use Rattle.analysis_steps.proofs.MovedLemmas.{grows_by}
+use Rattle.std.proofs.Common.{refl}
+use Rattle.analysis_values.specs.Known.{with_account}
+use Rattle.analysis_steps.proofs.MovedLemmas.{grows_by, grows_as}
 use Rattle.analysis_steps.proofs.moved.grow.Goals as goal
 
 pub returns : goal.returns
 returns c =
-    grows_by c.args.known.now c.sum.new.known c.set_account.new.self c.args.owner.now c.args.token.now c.args.amount.now c.args.before.now c.in_ok-total.total c.in_ok-fits.fits
-    c.requires c.in_ok-total.ensures.symbols c.sum.ensures.view c.in_ok-fits.ensures c.in_ok-set_account.ensures
+    let k = c.args.known.now in
+    let z = c.sum.new.known in
+    let p = c.args.owner.now in
+    let t = c.args.token.now in
+    let l = c.args.amount.now in
+    let e = c.in_ok-total.total in
+    let m = with_account z p t e in
+    grows_as k m c.replace_account.new.self p t l c.in_ok-fits.fits c.in_ok-replace_account.ensures (grows_by k z m p t l c.args.before.now e c.in_ok-fits.fits c.requires c.in_ok-total.ensures.symbols c.sum.ensures.view c.in_ok-fits.ensures refl)

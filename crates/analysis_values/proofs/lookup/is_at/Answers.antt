@@ -1,0 +1,7 @@
+use Rattle.std.proofs.Common.{sym, ◌∙◌}
+use Rattle.semantics.specs.Reduction.{account_of}
+use Rattle.analysis_values.proofs.ReplacedLaws.{place_by}
+use Rattle.analysis_values.proofs.lookup.is_at.Goals as goal
+
+pub returns : goal.returns
+returns c h = place_by c.args.entries.now c.args.at c.index-entries-at.result (account_of c.args.owner.now c.args.token.now) c.requires c.index-entries-at.is (sym c.is_key.ensures ∙ h)
