@@ -66,6 +66,18 @@ module _ (x : Account) (f : Floor) (old : Rows) (own : (n : ℤ) → IsUnder f.l
             (λ i s ps d. under_least span.least n _ (other n (own_at a n (eq_by_cmp account_cmp a x) refl q there)) (closes any_runs i s ps d).0.0),
       )
 
+-- the row stays, where it is no higher than what was paid at least
+pub kept_finds : (k : Known) (x : Account) (rows : Rows) (span : Span) → ((n : ℤ) → IsUnder (least_of (find account_cmp x rows)) n → IsUnder span.least n) → ClosesIn IsDescribed k (range_of x span ∷ []) → FindsAll (Lowers k x) rows rows
+kept_finds k x rows span low closes asked a n h = (
+  h,
+  λ q. subst (λ (z : Account). ClosesAbove k z n) (sym q)
+      (λ i s ps d. under_most span.least n _ (low n (subst (λ (z : Account). IsUnder (least_of (find account_cmp z rows)) n) q h.1)) (closes any_runs i s ps d).0.0),
+)
+  where
+    under_most : (o : Option ℤ) (n y : ℤ) → IsUnder o n → IfSome o (λ m. m ≤ℤ y) → n ≤ℤ y
+    under_most None n y h k = absurd h
+    under_most (Some m) n y h k = reaches n m y h k
+
 pub nothing_noted : (rows : Rows) → FindsAll Nothing rows rows
 nothing_noted rows asked a n h = (h, tt)
 
