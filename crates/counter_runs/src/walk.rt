@@ -220,7 +220,7 @@ impl Walk<'_> {
         let goes = match step {
             PathStep::Case(index) => self.takes_case(way, place, at, index)?,
             PathStep::TimeoutContinuation => self.times_out(way, place, at)?,
-            PathStep::Then | PathStep::Else => self.passes(at, step)?,
+            PathStep::Then | PathStep::Else => self.goes_past(way, place, at, step)?,
             PathStep::Action(_) => false,
         };
         Ok(part_if(goes, at, step))
@@ -340,6 +340,20 @@ impl Walk<'_> {
         Ok(())
     }
 
+    // Goes past what stands at a place that isn't a When, and tells whether the run goes on by a step from there.
+    fn goes_past(
+        &mut self,
+        way: &Way,
+        place: usize,
+        at: &Contract,
+        step: PathStep,
+    ) -> Result<bool, Memory> {
+        if way.is_plain(place) && self.open.is_some() {
+            return Ok(true);
+        }
+        self.passes(at, step)
+    }
+
     // Does what stands at a place that isn't a When, and tells whether the run goes on by a step from there.
     fn passes(&mut self, at: &Contract, step: PathStep) -> Result<bool, Memory> {
         match at {
@@ -429,7 +443,7 @@ impl Walk<'_> {
         case: &Case,
     ) -> Result<Brought, Memory> {
         let offer = self.offer(way, place, &case.action)?;
-        if !self.is_left_by(at, index) {
+        if !way.is_alone(place) && !self.is_left_by(at, index) {
             return Ok(Brought::Nothing);
         }
         match offer {

@@ -11,6 +11,7 @@
 mod candidates;
 mod constants;
 mod ends;
+mod plain;
 mod turns;
 mod way;
 mod weights;

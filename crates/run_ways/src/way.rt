@@ -1,6 +1,7 @@
 //! The way to a place.
 use crate::constants::{add_once, gather_observation, gather_value, with_neighbours, with_sums};
 use crate::ends::{Chosen, Ends, ends_of, note_step};
+use crate::plain::{always_passes, is_alone};
 use crate::weights::{of_bounds, weigh_settling, weigh_state, weigh_step};
 use crate::work::spend;
 use analysis_spec::PathStep;
@@ -38,6 +39,9 @@ pub struct Way {
     copy: u64,
     weights: Vec<u64>,
     behind: u64,
+    // For each step whether no earlier case can take its input, and whether it goes past an Assert that stops no run.
+    alone: Vec<bool>,
+    plain: Vec<bool>,
 }
 
 // Dropped once.
@@ -52,6 +56,8 @@ impl Drop for Way {
             copy: _,
             weights: _,
             behind: _,
+            alone: _,
+            plain: _,
         } = self;
     }
 }
@@ -74,6 +80,8 @@ impl Way {
             copy: weigh_state(state, left),
             weights: Vec::new(alloc),
             behind: 0,
+            alone: Vec::new(alloc),
+            plain: Vec::new(alloc),
         };
         let looks = looks_of(entries_of(state).saturating_add(steps.len()));
         let waits = way.read(alloc, contract, steps, looks, left)?;
@@ -125,11 +133,14 @@ impl Way {
         left: &mut u64,
     ) -> Result<(), Memory> {
         let before = *left;
-        if weigh_step(here, step, looks, left) {
+        let is_weighed = weigh_step(here, step, looks, left);
+        if is_weighed {
             gather_at(here, step, &mut self.constants)?;
             gather_edges(here, step, &mut self.edges)?;
         }
         self.weights.push(before.saturating_sub(*left))?;
+        self.alone.push(is_weighed && is_alone(here, step))?;
+        self.plain.push(is_weighed && always_passes(here))?;
         self.behind = self.behind.saturating_add(bounds_of(here, step));
         Ok(())
     }
@@ -160,6 +171,16 @@ impl Way {
     /// The work that a step takes, or the end of the way.
     pub fn weight(&self, step: usize) -> u64 {
         self.weights.get(step).copied().unwrap_or(0)
+    }
+
+    /// Whether a step takes a case of which no earlier one can take the input: then none is asked in a try.
+    pub fn is_alone(&self, step: usize) -> bool {
+        self.alone.get(step).copied().unwrap_or(false)
+    }
+
+    /// Whether a step goes past an Assert that stops no run: then a try doesn't ask whether it is true.
+    pub fn is_plain(&self, step: usize) -> bool {
+        self.plain.get(step).copied().unwrap_or(false)
     }
 
     /// The work that it takes to play a run of so many transactions again, where to find it took so much.
