@@ -83,7 +83,8 @@ fn spot_behind(bytes: &[u8]) -> Spot
     spot
 }
 
-// Behind one byte more.
+// Behind one byte more. It is asked for each byte of a text.
+#[inline(always)]
 fn past(spot: Spot, byte: u8) -> Spot
     requires line { spot.line < 2 ^ 63 }
     requires column { spot.column < 2 ^ 63 }
@@ -106,6 +107,7 @@ fn past(spot: Spot, byte: u8) -> Spot
     }
 }
 
+#[inline(always)]
 fn begins_scalar(byte: u8) -> bool
     ensures { result ≡ begins_scalar byte }
 {
