@@ -1,5 +1,6 @@
 //! A number of each part at which an alarm stands. Equal parts have equal numbers, and different parts mostly not. Nothing is
-//! promised of them: they tell which alarms are worth a comparison.
+//! promised of them: they tell which alarms are worth a comparison. A part without an alarm at it, above it or below it is
+//! passed over.
 use crate::seen::Seen;
 use analysis_spec::PathStep;
 use contract::{Boxed, Case, Contract, Items, Memory};
@@ -40,15 +41,17 @@ pub(crate) fn entries_of(
         matched: 0,
         parts: 0,
     };
-    let _number = number_of(contract, 0, &mut walk, &mut entries)?;
+    let _number = number_of(contract, 0, false, &mut walk, &mut entries)?;
     Ok(entries)
 }
 
-// The number of a part to which so many steps lead; and an entry for each alarm in it.
+// The number of a part to which so many steps lead, where that is wanted as an alarm stands at it or above it; and an entry for
+// each alarm in it.
 #[cycle(number_of)]
 fn number_of(
     contract: &Contract,
     depth: usize,
+    wanted: bool,
     walk: &mut Walk<'_>,
     entries: &mut Vec<Entry>,
 ) -> Result<u64, Memory> {
@@ -57,7 +60,11 @@ fn number_of(
     let from = walk.next;
     pass(walk, depth);
     let to = walk.next;
-    let number = number_of_form(contract, depth, walk, entries)?;
+    let wanted = wanted || to > from;
+    if !wanted && !is_on_way(walk, depth) {
+        return Ok(0);
+    }
+    let number = number_of_form(contract, depth, wanted, walk, entries)?;
     let parts = walk.parts.saturating_sub(before);
     put_entries(walk.seen, from, to, number, parts, entries)?;
     Ok(number)
@@ -67,40 +74,51 @@ fn number_of(
 fn number_of_form(
     contract: &Contract,
     depth: usize,
+    wanted: bool,
     walk: &mut Walk<'_>,
     entries: &mut Vec<Entry>,
 ) -> Result<u64, Memory> {
     match contract {
         Contract::Close => Ok(1),
         Contract::Pay(account, payee, token, value, then) => {
-            let names = mixed(mixed(own(account), own(payee)), own(token));
-            let first = mixed(2, mixed(names, own(value)));
-            number_then(first, PathStep::Then, then, depth, walk, entries)
+            let payer = mixed(own(wanted, account), own(wanted, token));
+            let paid = mixed(own(wanted, payee), own(wanted, value));
+            let first = mixed(2, mixed(payer, paid));
+            number_then(first, PathStep::Then, then, depth, wanted, walk, entries)
         }
         Contract::If(observation, then, otherwise) => {
-            let first = mixed(3, own(observation));
-            let second = number_then(first, PathStep::Then, then, depth, walk, entries)?;
-            number_then(second, PathStep::Else, otherwise, depth, walk, entries)
+            let first = mixed(3, own(wanted, observation));
+            let second = number_then(first, PathStep::Then, then, depth, wanted, walk, entries)?;
+            number_then(
+                second,
+                PathStep::Else,
+                otherwise,
+                depth,
+                wanted,
+                walk,
+                entries,
+            )
         }
         Contract::When(cases, timeout, then) => {
-            let first = mixed(4, own(timeout));
-            let second = number_of_cases(first, cases, depth, walk, entries)?;
+            let first = mixed(4, own(wanted, timeout));
+            let second = number_of_cases(first, cases, depth, wanted, walk, entries)?;
             number_then(
                 second,
                 PathStep::TimeoutContinuation,
                 then,
                 depth,
+                wanted,
                 walk,
                 entries,
             )
         }
         Contract::Let(name, value, then) => {
-            let first = mixed(5, mixed(own(name), own(value)));
-            number_then(first, PathStep::Then, then, depth, walk, entries)
+            let first = mixed(5, mixed(own(wanted, name), own(wanted, value)));
+            number_then(first, PathStep::Then, then, depth, wanted, walk, entries)
         }
         Contract::Assert(observation, then) => {
-            let first = mixed(6, own(observation));
-            number_then(first, PathStep::Then, then, depth, walk, entries)
+            let first = mixed(6, own(wanted, observation));
+            number_then(first, PathStep::Then, then, depth, wanted, walk, entries)
         }
     }
 }
@@ -112,11 +130,12 @@ fn number_then(
     step: PathStep,
     part: &Boxed<Contract>,
     depth: usize,
+    wanted: bool,
     walk: &mut Walk<'_>,
     entries: &mut Vec<Entry>,
 ) -> Result<u64, Memory> {
     enter(walk, depth, step);
-    let number = number_of(part.get(), depth.saturating_add(1), walk, entries)?;
+    let number = number_of(part.get(), depth.saturating_add(1), wanted, walk, entries)?;
     leave(walk, depth);
     Ok(mixed(first, number))
 }
@@ -126,13 +145,15 @@ fn number_of_cases(
     first: u64,
     cases: &Items<Case>,
     depth: usize,
+    wanted: bool,
     walk: &mut Walk<'_>,
     entries: &mut Vec<Entry>,
 ) -> Result<u64, Memory> {
     let mut number = first;
     let mut index = 0usize;
     for case in cases.as_slice() {
-        number = mixed(number, number_of_case(case, index, depth, walk, entries)?);
+        let one = number_of_case(case, index, depth, wanted, walk, entries)?;
+        number = mixed(number, one);
         index = index.saturating_add(1);
     }
     Ok(number)
@@ -143,6 +164,7 @@ fn number_of_case(
     case: &Case,
     index: usize,
     depth: usize,
+    wanted: bool,
     walk: &mut Walk<'_>,
     entries: &mut Vec<Entry>,
 ) -> Result<u64, Memory> {
@@ -152,10 +174,11 @@ fn number_of_case(
     pass(walk, depth.saturating_add(1));
     let to = walk.next;
     leave(walk, depth);
+    let wanted = wanted || to > from;
     enter(walk, depth, PathStep::Case(index));
-    let then = number_of(&case.then, depth.saturating_add(1), walk, entries)?;
+    let then = number_of(&case.then, depth.saturating_add(1), wanted, walk, entries)?;
     leave(walk, depth);
-    let number = mixed(own(&case.action), then);
+    let number = mixed(own(wanted, &case.action), then);
     let parts = walk.parts.saturating_sub(before);
     put_entries(walk.seen, from, to, number, parts, entries)?;
     Ok(number)
@@ -183,6 +206,11 @@ fn pass(walk: &mut Walk<'_>, depth: usize) {
         walk.next = walk.next.saturating_add(1);
         walk.matched = matched;
     }
+}
+
+// Whether the place of the next alarm lies in a part to which so many steps lead.
+fn is_on_way(walk: &Walk<'_>, depth: usize) -> bool {
+    walk.matched == depth && walk.next < walk.seen.len()
 }
 
 fn is_here(walk: &Walk<'_>, depth: usize) -> bool {
@@ -244,7 +272,11 @@ fn put_entries(
     Ok(())
 }
 
-fn own<T: Hash>(it: &T) -> u64 {
+// The number of what stands at a part itself, where it is wanted.
+fn own<T: Hash>(wanted: bool, it: &T) -> u64 {
+    if !wanted {
+        return 0;
+    }
     let mut state = DefaultHasher::new();
     it.hash(&mut state);
     state.finish()
