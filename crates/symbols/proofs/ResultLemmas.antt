@@ -48,6 +48,11 @@ named_within d low high k m l n e x h w q r c v a b f g =
     subst (λ (y : Linear). Gives k r (m, y) number) (sym q)
     (leads_gives k r m (m, symbol x) number (knows_leads k r m j) (gives_here m r (symbol x) number j.closed j.valued (below, tt) (sym (symbol_at r x ∙ is))))
 
+pub named_gives : (d : Bool) (k : Symbols) (l n e : Linear) (x : ℕ) → IsNamed k.operations d l n x → e ≡ symbol x → GivesResult d k k l n e
+named_gives d k l n e x h q r c v a b =
+    let number = result d (number_at r l) (number_at r n) in
+    subst (λ (y : Linear). Gives k r (k, y) number) (sym q) (gives_here k r (symbol x) number c v (h.below k.next c.operations, tt) (sym (symbol_at r x ∙ h.value r v.operations)))
+
 -- ---- a new symbol
 
 results_both : (r : Valuation) (os ps : List Operation) → AreResults r os → AreResults r ps → AreResults r (os ++ ps)

@@ -6,9 +6,9 @@ ghost use Rattle.symbols.specs.Results.{IsOf, IsSymbolOf, IsNamed, NamesInRange}
 ghost use Rattle.linear.specs.ResultRanges.{AreCorners, IsProductRange, IsTurned, IsByGreatest, IsLeastQuotient, IsGreatestQuotient, IsQuotientRange};
 
 use crate::apart::cancels;
-use crate::named::Named;
+use crate::named::{Named, Operations};
 use crate::newest::{MOST_LISTED, first_looked, make_room};
-use evaluation::collections::{Items, Memory, TryClone};
+use evaluation::collections::{Memory, TryClone};
 use linear::{Bounds, Linear, Ranges};
 
 fn same_kind(left: bool, right: bool) -> bool
@@ -85,7 +85,7 @@ pub(crate) fn found(
 /// A new symbol in a range for an operation of two expressions.
 pub(crate) fn put_operation(
     bounds: &mut Ranges,
-    operations: &mut Items<Named>,
+    operations: &mut Operations,
     divides: bool,
     first: &Linear,
     second: &Linear,
@@ -98,12 +98,15 @@ pub(crate) fn put_operation(
     let left = first.try_clone()?;
     let right = second.try_clone()?;
     bounds.push(range)?;
-    make_room(first.memory(), operations, MOST_LISTED)?;
-    operations.push(Named {
+    let mut list = operations.own()?;
+    make_room(first.memory(), &mut list, MOST_LISTED)?;
+    list.push(Named {
         divides,
         left,
         right,
         symbol,
     })?;
+    let shared = Operations::of(first.memory(), list)?;
+    *operations = shared;
     Ok(e)
 }

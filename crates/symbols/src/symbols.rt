@@ -15,7 +15,7 @@ use crate::apart::sharpened;
 use crate::branched::{Branched, SharedBranch};
 use crate::cases::shows_by_cases;
 use crate::join::joined_facts;
-use crate::named::Named;
+use crate::named::Operations;
 use crate::newest::{MOST_LISTED, first_since, make_room};
 use crate::operations::{found, put_operation};
 use crate::parts::product_of_parts;
@@ -30,6 +30,9 @@ use linear::{
 use std::alloc::Global;
 use std::marker::Model;
 
+// The most symbols of which ranges are compared: 32.
+const MOST_COMPARED: usize = 32;
+
 /// What is known of symbols that stand for whole numbers: their ranges, expressions that are at least 0 (facts) or
 /// aren't 0, which symbols are products and quotients of what, and which have what number in a branch. Clauses see the
 /// definitions' record.
@@ -37,11 +40,13 @@ pub struct Symbols {
     pub(crate) bounds: Ranges,
     pub(crate) facts: Items<Linear>,
     pub(crate) apart: Items<Linear>,
-    pub(crate) operations: Items<Named>,
+    pub(crate) operations: Operations,
     pub(crate) branches: Items<SharedBranch>,
     // how many facts there were in all, and how many expressions that aren't 0
     pub(crate) learned: usize,
     pub(crate) told_apart: usize,
+    // how many symbols there were when more was learned last of what they stand for
+    pub(crate) changed: usize,
 }
 
 // Dropped once.
@@ -55,6 +60,7 @@ impl Drop for Symbols {
             branches: _,
             learned: _,
             told_apart: _,
+            changed: _,
         } = self;
     }
 }
@@ -72,7 +78,7 @@ impl TryClone for Symbols {
     fn try_clone(&self) -> Result<Symbols, Memory> {
         let bounds = self.bounds.try_clone()?;
         let facts = self.facts.try_clone()?;
-        let copy = self.copy_with(bounds, facts, self.learned)?;
+        let copy = self.copy_with(bounds, facts, self.learned, self.changed)?;
         Ok(copy)
     }
 }
@@ -86,19 +92,21 @@ impl Symbols {
             bounds: Ranges::new(alloc),
             facts: Items::new(alloc),
             apart: Items::new(alloc),
-            operations: Items::new(alloc),
+            operations: Operations::none(alloc),
             branches: Items::new(alloc),
             learned: 0,
             told_apart: 0,
+            changed: 0,
         }
     }
 
-    // A copy with other ranges and facts, where there were so many facts in all.
+    // A copy with other ranges and facts, where there were so many facts in all, and so many symbols when they changed last.
     fn copy_with(
         &self,
         bounds: Ranges,
         facts: Items<Linear>,
         learned: usize,
+        changed: usize,
     ) -> Result<Symbols, Memory>
         ensures { IfOk result (λ s. s ≡ symbols_of bounds facts self.now.apart self.now.operations self.now.branches) }
     {
@@ -113,6 +121,7 @@ impl Symbols {
             branches,
             learned,
             told_apart: self.told_apart,
+            changed,
         })
     }
 
@@ -220,7 +229,8 @@ impl Symbols {
         let more = fact.try_clone()?;
         facts.push(more)?;
         let bounds = self.bounds.try_clone()?;
-        let copy = self.copy_with(bounds, facts, self.learned.saturating_add(1))?;
+        let learned = self.learned.saturating_add(1);
+        let copy = self.copy_with(bounds, facts, learned, self.bounds.len())?;
         Ok(copy)
     }
 
@@ -272,7 +282,7 @@ impl Symbols {
         put_range(&mut bounds, symbols, range)?;
         put_results(&mut bounds, self.operations.as_slice())?;
         let facts = self.facts.try_clone()?;
-        let copy = self.copy_with(bounds, facts, self.learned)?;
+        let copy = self.copy_with(bounds, facts, self.learned, self.bounds.len())?;
         Ok(copy)
     }
 
@@ -286,6 +296,7 @@ impl Symbols {
         }
         put_fact(&mut self.bounds, &mut self.facts, expression)?;
         self.learned = self.learned.saturating_add(1);
+        self.changed = self.bounds.len();
         Ok(())
     }
 
@@ -296,6 +307,7 @@ impl Symbols {
         make_room(fact.memory(), &mut self.facts, MOST_FACTS)?;
         self.facts.push(fact)?;
         self.learned = self.learned.saturating_add(1);
+        self.changed = self.bounds.len();
         Ok(())
     }
 
@@ -360,8 +372,34 @@ impl Symbols {
             others,
         )?;
         let shared = facts.len().saturating_sub(self.facts.len());
-        let joined = self.copy_with(bounds, facts, self.learned.saturating_add(shared))?;
+        let learned = self.learned.saturating_add(shared);
+        let changed = self.changed_by(shared, &bounds);
+        let joined = self.copy_with(bounds, facts, learned, changed)?;
         Ok(joined)
+    }
+
+    // How many symbols there were when more was learned last, where two cases join to these ranges and so many facts more: as before
+    // where they say no more.
+    fn changed_by(&self, shared: usize, bounds: &Ranges) -> usize {
+        if shared == 0 && self.has_ranges(bounds) {
+            self.changed
+        } else {
+            self.bounds.len()
+        }
+    }
+
+    // Whether these are the ranges of its symbols, where they are few.
+    fn has_ranges(&self, bounds: &Ranges) -> bool {
+        let count = self.bounds.len();
+        if count > MOST_COMPARED {
+            return false;
+        }
+        for symbol in 0..count {
+            if differ(self.bounds.at(symbol), bounds.at(symbol)) {
+                return false;
+            }
+        }
+        true
     }
 
     // The symbol of a product or quotient of two expressions, if one of the newest has one.
@@ -381,8 +419,21 @@ impl Symbols {
     fn narrow(&mut self, symbol: usize, range: Bounds) -> Result<(), Memory>
         ensures { OnOk result (KnowsWithin self.old self.new symbol range.least range.greatest) }
     {
+        let before = self.bounds.at(symbol);
         narrow_to(&mut self.bounds, symbol, range)?;
+        let after = self.bounds.at(symbol);
+        self.changed = changed_where(before, after, self.changed, self.bounds.len());
         Ok(())
+    }
+
+    // What was learned of a new product counts as nothing, where each factor has one symbol: it holds of any two numbers in the ranges
+    // of the factors, so it says no more of older symbols.
+    fn pass_over(&mut self, changed: usize, first: &Linear, second: &Linear)
+        ensures { self.new ≡ self.old }
+    {
+        if first.terms().len() == 1 && second.terms().len() == 1 {
+            self.changed = changed;
+        }
     }
 
     // The symbol of a product or quotient, which lies in a range: a new one, unless one of the newest is known. What one is
@@ -477,7 +528,7 @@ impl Symbols {
         self.numbered_product(first, second)
     }
 
-    // The symbol of a product, in the range that the ranges of both give, of which it is known how it lies to multiples of both.
+    // The symbol of a product: the one that it has, if one of the newest is its, and else a new one.
     pub(crate) fn numbered_product(
         &mut self,
         first: &Linear,
@@ -485,16 +536,45 @@ impl Symbols {
     ) -> Result<Linear, Memory>
         ensures { IfOk result (λ e. GivesResult false self.old self.new first.now second.now e) }
     {
-        let count = self.count();
+        let known = self.known_symbol(false, first, second)?;
+        match known {
+            Some(name) => self.known_product(name, first, second),
+            None => self.new_product(first, second),
+        }
+    }
+
+    // .. that has a symbol, whose range is made narrower. Where nothing was learned since the symbol was new, its range is what would
+    // be found again.
+    fn known_product(
+        &mut self,
+        name: usize,
+        first: &Linear,
+        second: &Linear,
+    ) -> Result<Linear, Memory>
+        requires { IsNamed self.old.operations false first.now second.now name }
+        ensures { IfOk result (λ e. GivesResult false self.old self.new first.now second.now e) }
+    {
+        if name >= self.changed {
+            return Linear::symbol(first.memory(), name);
+        }
         let x = self.range_of(first);
         let y = self.range_of(second);
         let range = product_range(x, y);
-        let e = self.operation(false, first, second, range)?;
-        let now = self.count();
-        if now == count {
-            return Ok(e);
-        }
+        self.narrow(name, range)?;
+        Linear::symbol(first.memory(), name)
+    }
+
+    // .. by a new symbol, in the range that the ranges of both give, of which it is known how it lies to multiples of both.
+    fn new_product(&mut self, first: &Linear, second: &Linear) -> Result<Linear, Memory>
+        ensures { IfOk result (λ e. GivesResult false self.old self.new first.now second.now e) }
+    {
+        let x = self.range_of(first);
+        let y = self.range_of(second);
+        let range = product_range(x, y);
+        let e = self.new_operation(false, first, second, range)?;
+        let changed = self.changed;
         learn_product(self, first, second, &e, x, y)?;
+        self.pass_over(changed, first, second);
         Ok(e)
     }
 
@@ -597,6 +677,16 @@ impl Symbols {
         }
         self.quotient_over(dividend, divisor)
     }
+}
+
+// One number where two ranges are the same, and else another.
+fn changed_where(before: Bounds, after: Bounds, same: usize, other: usize) -> usize {
+    if differ(before, after) { other } else { same }
+}
+
+// Whether two ranges are others.
+fn differ(one: Bounds, other: Bounds) -> bool {
+    one.least != other.least || one.greatest != other.greatest
 }
 
 // A new symbol in a range, behind all others.
