@@ -176,6 +176,7 @@ LEFT = {
     "copy Ranges": KNOWN,
     "copy SharedBranch": KNOWN,
     "copy Named": KNOWN,
+    "copy Operations": KNOWN,
     "copy Symbols": KNOWN,
     "copy Known": KNOWN,
     "copy View": KNOWN,

@@ -1,5 +1,5 @@
 -- What parties are paid where a contract is closed, account by account.
-use Rattle.std.proofs.Common.{◌≡◌, ℕ, ◌<◌, ◌≤◌, ◌+◌, ℤ, pos, ◌+ℤ◌, ◌≤ℤ◌, Bool, true, false, cond, List, [], ◌∷◌, ◌++◌, take, length, refl, sym, ap, subst, ◌∙◌, Option, Some, None, IfSome, arith}
+use Rattle.std.proofs.Common.{◌≡◌, ℕ, ◌<◌, ◌≤◌, ◌+◌, ℤ, pos, ◌+ℤ◌, ◌≤ℤ◌, Bool, true, false, cond, List, [], ◌∷◌, ◌++◌, take, length, refl, sym, ap, subst, ◌∙◌, Option, Some, None, IfSome, ◌⊎◌, inl, inr, arith}
 use Rattle.std.specs.Prelude.{is_some}
 use Rattle.std.proofs.lemmas.Int.{ints}
 use Rattle.std.proofs.Math.ListN.{get_or}
@@ -19,9 +19,10 @@ use Rattle.semantics.specs.Reduction.{account_of}
 use Rattle.linear.specs.Linear.{Linear, number_at, number}
 use Rattle.linear.specs.Bounded.{IsFromAll, IsUpToAll}
 use Rattle.analysis_walk.specs.Conclusions.{ClosesIn}
-use Rattle.analysis_walk.proofs.ListLaws.{all_append, all_left, all_right, all_weaker}
+use Rattle.analysis_walk.proofs.ListLaws.{all_append, all_weaker}
 use Rattle.analysis_values.specs.Known.{Known, held, IsDescribed}
-use Rattle.analysis_values.specs.Entries.{keys_of}
+use Rattle.analysis_values.specs.Entries.{keys_of, other_keys}
+use Rattle.analysis_values.proofs.NamedLaws.{named_or}
 use Rattle.analysis_steps.proofs.CloseLaws.{closes_by}
 use Rattle.analysis_walk.specs.declared.span.Span.{Span}
 use Rattle.analysis_walk.specs.Spans.{nothing, range_at}
@@ -73,28 +74,30 @@ none_named : (o : Option Span) → is_some o ≡ true → o ≡ None → ⊥
 none_named None h e = absurd (cc)
 none_named (Some x) h e = absurd (cc)
 
-not_here : (spans : List (Account × Span)) (a b : Account) (l : Linear) (o : Option Linear) (t : Bool) → eq_by_cmp account_cmp a b ≡ t → IsNamed spans b → find account_cmp a spans ≡ None → o ≡ None → cond t (Some l) o ≡ None
-not_here spans a b l o true e h n q = absurd (none_named (find account_cmp b spans) h (ap (λ (z : Account). find account_cmp z spans) (sym (same_account a b e)) ∙ n))
-not_here spans a b l o false e h n q = q
-
-none_found : (spans : List (Account × Span)) (a : Account) (es : List (Account × Linear)) → NamesAll (keys_of es) spans → find account_cmp a spans ≡ None → find account_cmp a es ≡ None
-none_found spans a [] h n = refl
-none_found spans a (e ∷ es) h n = not_here spans a e.0 e.1 (find account_cmp a es) (eq_by_cmp account_cmp a e.0) refl h.0 n (none_found spans a es h.1 n)
-
 holds_zero : (es : List (Account × Linear)) (a : Account) → find account_cmp a es ≡ None → number (pos 0) ≡ held es a
 holds_zero es a e = ap (λ (o : Option Linear). unwrap_or o (number (pos 0))) (sym e)
 
 le_itself : (n : ℤ) → n ≤ℤ n
 le_itself n = omega (arith, ints)
 
-module _ (k : Known) (spans : List (Account × Span)) (paid : ArePaid k spans) (all : NamesAll (keys_of k.view.accounts ++ keys_of k.view.paid) spans) where
+abbrev Names : Known → List Account
+Names k = keys_of k.view.accounts ++ other_keys k.view.accounts k.view.paid
+
+module _ (k : Known) (spans : List (Account × Span)) (paid : ArePaid k spans) (all : NamesAll (Names k) spans) where
+  named_or_none : (a : Account) → ((find account_cmp a k.view.accounts ≡ None) × (find account_cmp a k.view.paid ≡ None)) ⊎ IsNamed spans a
+  named_or_none a =
+      named_or a (IsNamed spans a) k.view.accounts k.view.paid
+      (all_weaker (IsNamed spans) (λ x. a ≡ x → IsNamed spans a) (λ x h q. subst (IsNamed spans) (sym q) h) (Names k) all)
+
   unnamed : (p : Party) (t : Token) → find account_cmp (account_of p t) spans ≡ None → ClosesIn IsDescribed k (record { party = p; token = t; least = Some (pos 0); most = Some (pos 0) } ∷ [])
-  unnamed p t n =
-      let a = account_of p t in
-      closes_by k p t (number (pos 0)) (number (pos 0)) nothing
-      (holds_zero k.view.paid a (none_found spans a k.view.paid (all_right (IsNamed spans) (keys_of k.view.accounts) (keys_of k.view.paid) all) n))
-      (holds_zero k.view.accounts a (none_found spans a k.view.accounts (all_left (IsNamed spans) (keys_of k.view.accounts) (keys_of k.view.paid) all) n))
-      (λ r x y. le_itself (pos 0)) (λ r x y. le_itself (pos 0))
+  unnamed p t n = by_named (named_or_none (account_of p t))
+    where
+      by_named : ((find account_cmp (account_of p t) k.view.accounts ≡ None) × (find account_cmp (account_of p t) k.view.paid ≡ None)) ⊎ IsNamed spans (account_of p t)
+          → ClosesIn IsDescribed k (record { party = p; token = t; least = Some (pos 0); most = Some (pos 0) } ∷ [])
+      by_named (inl none) =
+          closes_by k p t (number (pos 0)) (number (pos 0)) nothing (holds_zero k.view.paid (account_of p t) none.1) (holds_zero k.view.accounts (account_of p t) none.0)
+          (λ r x y. le_itself (pos 0)) (λ r x y. le_itself (pos 0))
+      by_named (inr h) = absurd (none_named (find account_cmp (account_of p t) spans) h n)
 
   pub closed : ClosesBy IsDescribed k spans
   closed p t = by_entry (find account_cmp (account_of p t) spans) refl (paid (account_of p t))

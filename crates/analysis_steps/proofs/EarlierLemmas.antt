@@ -15,7 +15,7 @@ use Rattle.contract.specs.declared.input.Input.TheVariants.{Deposit, Notify}
 use Rattle.contract.specs.declared.interval.Interval.{Interval}
 use Rattle.contract.specs.declared.payment.Payment.{Payment}
 use Rattle.contract.specs.declared.tree.Case.{Case}
-use Rattle.contract.specs.Tree.{ValueTree, ObservationTree, ActionTree, deposit, notify, action_tree}
+use Rattle.contract.specs.Tree.{ValueTree, ObservationTree, ActionTree, deposit, notify, false_obs, action_tree}
 use Rattle.contract.specs.States.States.{StateMaps}
 use Rattle.semantics.specs.Evaluation.Evaluation.{eval, visited, holds}
 use Rattle.semantics.specs.Applying.{agrees, matches, taken_numbers}
@@ -122,6 +122,13 @@ all_taken k ks ls o e ignored scope i s ps d z h = ignored scope i s ps d (all_i
 
 pub rest_taken : (k m : Known) (ks ls : List Case) (o : ObservationTree) → IsEndOf ks ls → IsIgnoredBy k ls (Some m) → IsNeverSo m o → IsNotifyTaken k (actions_before ks) o
 rest_taken k m ks ls o e ignored never scope i s ps d z h = never scope i s ps (ignored scope i s ps d (all_ignored ks ls i s e z)) h
+
+-- none comes while what is false is true
+pub notifies_false : (k : Known) (es : List ActionTree) (o : ObservationTree) (kinds : List AlarmKind) → o ≡ false_obs → NotifiesSo IsDescribed k es o (record { kinds = kinds; known = None })
+notifies_false k es o kinds is = subst (λ (z : ObservationTree). NotifiesSo IsDescribed k es z (record { kinds = kinds; known = None })) (sym is) never
+  where
+    never : NotifiesSo IsDescribed k es false_obs (record { kinds = kinds; known = None })
+    never scope i s ps d = (λ g. tt, λ z h. absurd (let u : false ≡ true = h in cc))
 
 pub notifies_never : (k : Known) (es : List ActionTree) (o : ObservationTree) (kinds : List AlarmKind) (one other : Option Known) → ObservesSo IsDescribed k o (record { kinds = kinds; if_true = one; if_false = other }) → IsNotifyTaken k es o
     → NotifiesSo IsDescribed k es o (record { kinds = kinds; known = None })

@@ -1,5 +1,5 @@
 -- What moving an amount does to what is known.
-use Rattle.std.proofs.Common.{◌≡◌, ℕ, ℤ, pos, ◌+ℤ◌, ◌-ℤ◌, ◌≤ℤ◌, Bool, true, false, cond, List, ◌∷◌, refl, sym, ap, ◌∙◌, subst, arith, Option, Some}
+use Rattle.std.proofs.Common.{◌≡◌, ℕ, ◌≤◌, ℤ, pos, ◌+ℤ◌, ◌-ℤ◌, ◌≤ℤ◌, Bool, true, false, cond, List, ◌∷◌, refl, sym, ap, ◌∙◌, subst, arith, Option, Some}
 use Rattle.std.proofs.lemmas.Int.{ints}
 use Rattle.std.specs.Option.{unwrap_or}
 use Rattle.std.specs.Ordering.{eq_by_cmp}
@@ -16,16 +16,18 @@ use Rattle.contract.specs.States.States.{StateMaps, with_money}
 use Rattle.semantics.specs.Evaluation.Numbers.{fits}
 use Rattle.semantics.specs.Reduction.{account_of, balance, debited, credited}
 use Rattle.linear.specs.Linear.{Linear, Valuation, number_at, IsBelow, number, Agree}
-use Rattle.symbols.specs.Symbols.{IsValued, Gives}
+use Rattle.symbols.specs.Symbols.{Symbols, IsValued, Gives}
 use Rattle.linear.proofs.LinearLaws.{same_number}
 use Rattle.symbols.proofs.KnownLaws.{terms_more, below_more, up_more}
 use Rattle.analysis_spec.specs.Runs.{paid_to}
 use Rattle.analysis_walk.specs.Limits.{Scope, any_runs, written_runs, Allowed}
-use Rattle.analysis_values.specs.Known.{View, Known, held, AreTimes, IsSeen, SeesBelow, IsDescribed, known, with_amount}
+use Rattle.analysis_values.specs.Known.{View, Known, held, AreTimes, IsSeen, SeesBelow, IsDescribed, with_account, with_paid}
 use Rattle.analysis_values.proofs.KnownLaws.{found_below, sees_more, same_seen}
 use Rattle.analysis_values.proofs.AccountLaws.{amount_seen, same_money_seen, allowed_below, sum_natural, account_decides, share_is}
 use Rattle.analysis_values.proofs.AnsweredLaws.{goes_fitting}
 use Rattle.analysis_values.specs.Answered.{StaysWhereSaid}
+use Rattle.analysis_values.specs.Replaced.{IsAsKnown}
+use Rattle.analysis_values.proofs.ReplacedLaws.{described_as}
 use Rattle.analysis_steps.specs.Amounts.{amount_paid, GivesPaid, GivesSum, GivesRest}
 use Rattle.analysis_steps.specs.Moved.{Reaches, IsSaidToFit, Debits, Grows, PaysMore, PaysOut, Moves, Transfers}
 use Rattle.analysis_steps.proofs.AmountLemmas.{paid_natural, paid_up}
@@ -54,6 +56,14 @@ reaches_then scope k z m r i j s u ps qs g h = record {
   agrees = λ x l. h.agrees x (below_more x k.symbols.next z.symbols.next l g.grows) ∙ g.agrees x l;
 }
 
+-- .. told by other entries
+reaches_as : (scope : Scope) (k z m : Known) (r : Valuation) (i : Interval) (s : StateMaps) (ps : List Payment) → IsAsKnown z m → Reaches scope k r z i s ps → Reaches scope k r m i s ps
+reaches_as scope k z m r i s ps h g = record {
+  grows = subst (λ (x : Symbols). k.symbols.next ≤ x.next) (sym h.symbols) g.grows;
+  described = described_as scope z m i s ps h g.described;
+  agrees = g.agrees;
+}
+
 -- an expression still has its number
 pub still_number : (n : ℕ) (q r : Valuation) (l : Linear) (x : ℤ) → Agree n q r → IsBelow n l → x ≡ number_at r l → x ≡ number_at q l
 still_number n q r l x a b e = e ∙ sym (same_number n q r a l b)
@@ -72,7 +82,7 @@ rest_below : (b p : ℤ) → pos 0 ≤ℤ p → (b -ℤ p) ≤ℤ b
 rest_below b p h = omega (arith, ints)
 
 pub debits_by : (k z m : Known) (p : Party) (t : Token) (l b e : Linear) → b ≡ held k.view.accounts (account_of p t) → GivesRest k.symbols z.symbols b l e → z.view ≡ k.view
-    → m ≡ known z.symbols (with_amount z.view p t e) → Debits k m p t l
+    → IsAsKnown (with_account z p t e) m → Debits k m p t l
 debits_by k z m p t l b e is rest same set scope i s ps n d below number natural up =
     let r = d.numbers in
     let o = held k.view.accounts (account_of p t) in
@@ -81,7 +91,7 @@ debits_by k z m p t l b e is rest same set scope i s ps n d below number natural
     (subst (λ a. a ≤ℤ number_at r o) number (subst (λ a. n ≤ℤ a) money up)) in
     let f = described_on scope k i s ps d z e (number_at r o -ℤ number_at r l) same g in
     let left = rest_natural (balance s p t) n up in
-    subst (λ x. Reaches scope k r x i (debited s p t n) ps) (sym set)
+    reaches_as scope k (with_account z p t e) m r i (debited s p t n) ps set
     (record {
       grows = g.grows;
       described = record {
@@ -98,7 +108,7 @@ debits_by k z m p t l b e is rest same set scope i s ps n d below number natural
 -- ---- the payee's account
 
 pub grows_by : (k z m : Known) (p : Party) (t : Token) (l b e : Linear) (fit : Bool) → b ≡ held k.view.accounts (account_of p t) → GivesSum k.symbols z.symbols b l e → z.view ≡ k.view
-    → StaysWhereSaid z e fit → m ≡ known z.symbols (with_amount z.view p t e) → Grows k m p t l fit
+    → StaysWhereSaid z e fit → IsAsKnown (with_account z p t e) m → Grows k m p t l fit
 grows_by k z m p t l b e fit is sum same stays set scope i s ps n d below number natural =
     let r = d.numbers in
     let o = held k.view.accounts (account_of p t) in
@@ -109,7 +119,7 @@ grows_by k z m p t l b e fit is sum same stays set scope i s ps n d below number
     let allowed = allowed_where_said scope z g.values e (balance s p t +ℤ n) fit stays g.valued f.seen.times total in
     record {
       sum = allowed;
-      known = λ h. subst (λ x. Reaches scope k r x i (with_money s (account_of p t) (balance s p t +ℤ n)) ps) (sym set)
+      known = λ h. reaches_as scope k (with_account z p t e) m r i (with_money s (account_of p t) (balance s p t +ℤ n)) ps set
           (record {
             grows = g.grows;
             described = record {
@@ -161,7 +171,7 @@ paid_seen scope r i v s ps qs p t m n e f pays = record {
     of_account a false q x y z g k = sym (no_more x) ∙ g
 
 pub pays_out_by : (k z m : Known) (p : Party) (t : Token) (l b e : Linear) → b ≡ held k.view.paid (account_of p t) → GivesSum k.symbols z.symbols b l e → z.view ≡ k.view
-    → m ≡ known z.symbols (record (z.view) { paid = (account_of p t, e) ∷ z.view.paid }) → PaysOut k m p t l
+    → IsAsKnown (with_paid z p t e) m → PaysOut k m p t l
 pays_out_by k z m p t l b e is sum same set scope i s ps qs n d below number pays =
     let r = d.numbers in
     let o = held k.view.paid (account_of p t) in
@@ -170,7 +180,7 @@ pays_out_by k z m p t l b e is sum same set scope i s ps qs n d below number pay
     let before : number_at g.values (held z.view.paid (account_of p t)) ≡ number_at r o =
     ap (λ (v : View). number_at g.values (held v.paid (account_of p t))) same
     ∙ same_number k.symbols.next g.values r g.agrees o (found_below account_cmp k.symbols.next k.view.paid (account_of p t) d.below.paid) in
-    subst (λ x. Reaches scope k r x i s qs) (sym set)
+    reaches_as scope k (with_paid z p t e) m r i s qs set
     (record {
       grows = g.grows;
       described = record {

@@ -21,7 +21,7 @@ mod times;
 pub use branches::branch;
 pub use choices::{MOST_CASES, choose};
 pub use deposits::deposit;
-pub use ends::close;
+pub use ends::{close, close_beside};
 pub use notifies::notify;
 pub use reductions::{assert, bind, pay};
 pub use starts::start;

@@ -17,7 +17,7 @@ fn debit(known: &mut Known, owner: &Party, token: &Token, amount: &Linear) -> Re
 {
     let before = known.held(owner, token)?;
     let left = rest(known, &before, amount)?;
-    known.set_account(owner, token, left)
+    known.replace_account(owner, token, left)
 }
 
 // The account of a party, which held so much before, gets an amount; whether the sum is shown to fit 128 bits.
@@ -33,7 +33,7 @@ pub(crate) fn grow(
 {
     let total = sum(known, before, amount)?;
     let fits = known.stays(&total)?;
-    known.set_account(owner, token, total)?;
+    known.replace_account(owner, token, total)?;
     Ok(fits)
 }
 
@@ -43,7 +43,7 @@ fn pay_out(known: &mut Known, party: &Party, token: &Token, amount: &Linear) -> 
 {
     let before = known.paid(party, token)?;
     let total = sum(known, &before, amount)?;
-    known.set_paid(party, token, total)
+    known.replace_paid(party, token, total)
 }
 
 // An amount moves from one account to another, which is looked up once the first is reduced: they may be one. And

@@ -1,6 +1,6 @@
 //! Notifications.
 ghost use Rattle.std.specs.Prelude.{◌≡◌, true, IfOk};
-ghost use Rattle.contract.specs.Tree.{observation_tree};
+ghost use Rattle.contract.specs.Tree.{observation_tree, false_obs};
 ghost use Rattle.analysis_walk.specs.Conclusions.{NotifiesSo};
 ghost use Rattle.analysis_walk.specs.Knowledge.{actions_before};
 ghost use Rattle.analysis_values.specs.Known.{IsDescribed};
@@ -11,7 +11,7 @@ use crate::earlier::is_notify_taken;
 use crate::reductions::is_impossible;
 use analysis_values::Known;
 use analysis_walk::{Branches, Conclusion};
-use contract::{Case, Memory, Observation};
+use contract::{Case, Items, Memory, Observation};
 use std::alloc::Global;
 
 // Whether an earlier case is shown to take each notification; where none can come that isn't asked.
@@ -29,6 +29,13 @@ fn is_taken(
     is_notify_taken(known, earlier, observation)
 }
 
+// Whether an observation says that it is false.
+fn says_false(observation: &Observation) -> bool
+    ensures { result ≡ true → observation_tree observation.now ≡ false_obs }
+{
+    matches!(observation, Observation::FalseObs)
+}
+
 /// A notification while an observation is true, which no earlier case takes (Marlowe specification version 3, "Apply
 /// cases"): none where an earlier case is shown to take each. An alarm that a number leaves 128 bits, unless the
 /// observation's numbers are shown to fit.
@@ -40,6 +47,12 @@ pub fn notify(
 ) -> Result<Conclusion<Known>, Memory>
     ensures { IfOk result (NotifiesSo IsDescribed known (actions_before earlier.now) (observation_tree observation.now)) }
 {
+    if says_false(observation) {
+        return Ok(Conclusion {
+            kinds: Items::new(alloc),
+            known: None,
+        });
+    }
     let branches = branch(alloc, &known, observation)?;
     let taken = is_taken(&known, earlier, observation, &branches.if_true)?;
     if taken {

@@ -1,7 +1,10 @@
 -- Entries: their keys, and their numbers.
-use Rattle.std.specs.Prelude.{◌≡◌, ℤ, true, List, [], ◌∷◌, map}
+use Rattle.std.specs.Prelude.{◌≡◌, ℤ, true, not, is_some, List, [], ◌∷◌, map, filter}
 use Rattle.std.specs.List.{AllByRecursion}
 use Rattle.std.specs.FinMap.{entries}
+use Rattle.std.specs.FinMap.Entries.{find}
+use Rattle.contract.specs.Names.declared.account.Account.{Account}
+use Rattle.contract.specs.Names.Orders.{account_cmp}
 use Rattle.contract.specs.States.States.{StateMaps}
 use Rattle.semantics.specs.Evaluation.Numbers.{fits}
 use Rattle.linear.specs.Linear.{Linear, number}
@@ -10,6 +13,10 @@ use Rattle.analysis_values.specs.Known.{Known}
 
 abbrev pub keys_of : {K : Type 0} → List (K × Linear) → List K
 keys_of {K} es = let key : K × Linear → K = λ e. e.0 in map key es
+
+-- the accounts of entries, but for those that have one of these others
+abbrev pub other_keys : List (Account × Linear) → List (Account × Linear) → List Account
+other_keys others es = filter (λ a. not (is_some (find account_cmp a others))) (keys_of es)
 
 -- each number as an expression
 abbrev pub in_numbers : {K : Type 0} → List (K × ℤ) → List (K × Linear)

@@ -4,3 +4,4 @@ pub mod Answered
 pub mod Steps
 pub mod Branches
 pub mod Junctions
+pub mod Replaced

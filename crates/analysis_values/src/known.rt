@@ -8,10 +8,14 @@ ghost use Rattle.linear.specs.Bounded.{IsShown, IsFromAll, IsUpToAll, IsRefuted}
 ghost use Rattle.symbols.specs.Held.{GivesAny, Learns, Assumes};
 ghost use Rattle.symbols.specs.Joined.{Joins};
 ghost use Rattle.analysis_values.specs.Known.{held, with_account, with_paid, with_choice, with_bound};
-ghost use Rattle.analysis_values.specs.Entries.{known_of_state, keys_of};
+ghost use Rattle.analysis_values.specs.Entries.{known_of_state, keys_of, other_keys};
+ghost use Rattle.analysis_values.specs.Replaced.{IsAsKnown};
 ghost use Rattle.analysis_values.specs.Answered.{StaysWhereSaid, AddsTime};
 
-use crate::lookup::{AccountOf, found, has, in_expressions, or_zero, put_first, put_keys};
+use crate::lookup::{
+    AccountOf, found, has, in_expressions, or_zero, put_account, put_first, put_keys,
+    put_other_keys,
+};
 use crate::stays::stays;
 use crate::view::View;
 use contract::{Account, ChoiceId, Items, Memory, Party, State, Text, Token, TryClone};
@@ -119,13 +123,13 @@ impl Known {
     }
 
     /// The accounts that have an entry, of what is held or of what parties were paid: the others hold 0, and their owners
-    /// were paid nothing of their tokens. In no order, and one may stand there more than once.
+    /// were paid nothing of their tokens. In no order; one that has an entry of both stands there once.
     pub fn named(&self) -> Result<Items<Account>, Memory>
-        ensures { IfOk result (λ ns. ns ≡ keys_of self.now.view.accounts ++ keys_of self.now.view.paid) }
+        ensures { IfOk result (λ ns. ns ≡ keys_of self.now.view.accounts ++ other_keys self.now.view.accounts self.now.view.paid) }
     {
         let mut names = Items::new(self.view.memory());
         put_keys(&mut names, &self.view.accounts)?;
-        put_keys(&mut names, &self.view.paid)?;
+        put_other_keys(&mut names, &self.view.accounts, &self.view.paid)?;
         Ok(names)
     }
 
@@ -166,30 +170,29 @@ impl Known {
 
     // ---- what is set
 
-    /// Sets what the account of a party holds of a token.
-    pub fn set_account(
+    /// Sets what the account of a party holds of a token, in place of what it held: each account has one entry, so that a copy
+    /// and a look-up cost no more for all that it held before.
+    pub fn replace_account(
         &mut self,
         owner: &Party,
         token: &Token,
         amount: Linear,
     ) -> Result<(), Memory>
-        ensures { OnOk result (self.new ≡ with_account self.old owner.now token.now amount) }
+        ensures { OnOk result (IsAsKnown (with_account self.old owner.now token.now amount) self.new) }
     {
-        put_first(&mut self.view.accounts, &AccountOf { owner, token }, amount)
+        put_account(&mut self.view.accounts, owner, token, amount)
     }
 
-    /// Sets what a party was paid of a token.
-    pub fn set_paid(&mut self, party: &Party, token: &Token, amount: Linear) -> Result<(), Memory>
-        ensures { OnOk result (self.new ≡ with_paid self.old party.now token.now amount) }
+    /// Sets what a party was paid of a token, in place of what it was paid before.
+    pub fn replace_paid(
+        &mut self,
+        party: &Party,
+        token: &Token,
+        amount: Linear,
+    ) -> Result<(), Memory>
+        ensures { OnOk result (IsAsKnown (with_paid self.old party.now token.now amount) self.new) }
     {
-        put_first(
-            &mut self.view.paid,
-            &AccountOf {
-                owner: party,
-                token,
-            },
-            amount,
-        )
+        put_account(&mut self.view.paid, party, token, amount)
     }
 
     /// Sets the number of a choice.
@@ -250,10 +253,13 @@ impl Known {
         self.symbols.assume(number)
     }
 
-    /// Whether an expression is shown to be at least 0.
+    /// Whether an expression is shown to be at least 0. Facts say nothing of a number, here and below.
     pub fn shows(&self, number: &Linear) -> bool
         ensures { result ≡ true → IsShown self.now.symbols.ranges self.now.symbols.facts number.now }
     {
+        if number.is_number() && number.constant() < 0 {
+            return false;
+        }
         self.symbols.shows(number)
     }
 
@@ -264,10 +270,20 @@ impl Known {
         self.symbols.refutes(number)
     }
 
+    /// A number that an expression is shown not to be below, where `least` returns one: as the ranges show it, if they do.
+    pub fn some_least(&self, number: &Linear) -> Option<i128>
+        ensures { IsFromAll self.now.symbols.ranges self.now.symbols.facts (λ r. number_at r number.now) result }
+    {
+        self.symbols.some_least(number)
+    }
+
     /// The greatest number that an expression is shown not to be below, if there is one.
     pub fn least(&self, number: &Linear) -> Option<i128>
         ensures { IsFromAll self.now.symbols.ranges self.now.symbols.facts (λ r. number_at r number.now) result }
     {
+        if number.is_number() {
+            return self.some_least(number);
+        }
         self.symbols.least(number)
     }
 
@@ -275,6 +291,9 @@ impl Known {
     pub fn greatest(&self, number: &Linear) -> Option<i128>
         ensures { IsUpToAll self.now.symbols.ranges self.now.symbols.facts (λ r. number_at r number.now) result }
     {
+        if number.is_number() {
+            return Some(number.constant());
+        }
         self.symbols.greatest(number)
     }
 

@@ -1,10 +1,13 @@
 //! Entries by their keys.
-ghost use Rattle.std.specs.Prelude.{◌≡◌, ◌∷◌, ◌++◌, pos, IfOk, OnOk, is_some};
+ghost use Rattle.std.specs.Prelude.{◌≡◌, ◌<◌, ◌∷◌, ◌++◌, pos, true, length, IfOk, IfSome, OnOk, is_some};
 ghost use Rattle.std.specs.Option.{unwrap_or};
 ghost use Rattle.std.specs.Ordering.{eq_by_cmp};
 ghost use Rattle.std.specs.FinMap.Entries.{find};
+ghost use Rattle.contract.specs.Names.declared.account.Account.{Account as AnAccount};
+ghost use Rattle.semantics.specs.Reduction.{account_of};
 ghost use Rattle.linear.specs.Linear.{number};
-ghost use Rattle.analysis_values.specs.Entries.{in_numbers, keys_of};
+ghost use Rattle.analysis_values.specs.Entries.{in_numbers, keys_of, other_keys};
+ghost use Rattle.analysis_values.specs.Replaced.{AreAsFound, IsPlaceOf};
 
 use contract::collections::{Items, Memory, Probe, TryClone};
 use contract::{Account, Party, Token};
@@ -96,6 +99,53 @@ pub(crate) fn put_first<K: Ord + Drop, Q: Probe<K>>(
     Ok(())
 }
 
+/// Puts what an account has before the other entries, in place of what it had.
+pub(crate) fn put_account(
+    entries: &mut Vec<(Account, Linear)>,
+    owner: &Party,
+    token: &Token,
+    value: Linear,
+) -> Result<(), Memory>
+    ensures { OnOk result (AreAsFound ((account_of owner.now token.now, value) ∷ entries.old.items) entries.new.items) }
+{
+    match place_of(entries, owner, token) {
+        Some(at) => put_again(entries, at, value),
+        None => put_first(entries, &AccountOf { owner, token }, value),
+    }
+}
+
+// The place of an account's entry, if there is one.
+fn place_of(entries: &[(Account, Linear)], owner: &Party, token: &Token) -> Option<usize>
+    ensures { IfSome result (IsPlaceOf entries.now (account_of owner.now token.now)) }
+{
+    for at in 0..entries.len() {
+        let here = is_at(entries, at, owner, token);
+        if here {
+            return Some(at);
+        }
+    }
+    None
+}
+
+// Whether it stands at a place.
+fn is_at(entries: &[(Account, Linear)], at: usize, owner: &Party, token: &Token) -> bool
+    requires { at < length entries.now }
+    ensures { result ≡ true → IsPlaceOf entries.now (account_of owner.now token.now) at }
+{
+    let entry = &entries[at];
+    is_key(&AccountOf { owner, token }, &entry.0)
+}
+
+// Puts another value, first, for the account whose entry stands at a place.
+fn put_again(entries: &mut Vec<(Account, Linear)>, at: usize, value: Linear) -> Result<(), Memory>
+    requires { at < length entries.old.items }
+    ensures { OnOk result ((a : AnAccount) → IsPlaceOf entries.old.items a at → AreAsFound ((a, value) ∷ entries.old.items) entries.new.items) }
+{
+    let (account, _) = entries.remove(at);
+    entries.insert(0, (account, value))?;
+    Ok(())
+}
+
 /// The same entries once more.
 pub(crate) fn copied_entries<K: TryClone + Drop>(
     alloc: Global,
@@ -119,6 +169,23 @@ pub(crate) fn put_keys<K: TryClone + Drop>(
 {
     for (key, _) in entries {
         keys.push(key.try_clone()?)?;
+    }
+    Ok(())
+}
+
+/// .. of accounts, but for those that have one of these others.
+pub(crate) fn put_other_keys(
+    keys: &mut Items<Account>,
+    others: &[(Account, Linear)],
+    entries: &[(Account, Linear)],
+) -> Result<(), Memory>
+    ensures { OnOk result (keys.new ≡ keys.old ++ other_keys others.now entries.now) }
+{
+    for (key, _) in entries {
+        let there = has(others, key);
+        if !there {
+            keys.push(key.try_clone()?)?;
+        }
     }
     Ok(())
 }

@@ -36,9 +36,11 @@ use Rattle.analysis_walk.specs.Conclusions.{DepositsSo, ChoosesSo, NotifiesSo}
 use Rattle.analysis_walk.specs.declared.conclusion.Conclusion.{Conclusion}
 use Rattle.analysis_walk.proofs.ListLaws.{both}
 use Rattle.analysis_walk.proofs.WalkLaws.{same_deposit}
-use Rattle.analysis_values.specs.Known.{View, Known, held, IsDescribed, known}
+use Rattle.analysis_values.specs.Known.{View, Known, held, IsDescribed, with_paid}
+use Rattle.analysis_values.specs.Replaced.{IsAsKnown}
 use Rattle.analysis_values.proofs.KnownLaws.{found_below}
 use Rattle.analysis_values.proofs.AccountLaws.{account_decides, pays_one}
+use Rattle.analysis_values.proofs.ReplacedLaws.{described_as}
 use Rattle.analysis_steps.specs.Amounts.{GivesSum}
 use Rattle.analysis_steps.proofs.MovedLemmas.{described_on, paid_seen, pays_out_by, held_below}
 use Rattle.loss_walk.specs.Brings.{GivesDifference, PutsHeld, TakesHeld, TakesOff, Takes}
@@ -57,7 +59,7 @@ difference_here k l n e s r closed valued x y = gives_here k r e (number_at r l 
 -- ---- what a party was paid, moved by what an account holds
 
 pub puts_held : (k z m : Known) (p q : Party) (t : Token) (b h e : Linear) → b ≡ held k.view.paid (account_of p t) → h ≡ held k.view.accounts (account_of q t) → GivesSum k.symbols z.symbols b h e → z.view ≡ k.view
-    → m ≡ known z.symbols (record (z.view) { paid = (account_of p t, e) ∷ z.view.paid }) → PutsHeld k m p q t
+    → IsAsKnown (with_paid z p t e) m → PutsHeld k m p q t
 puts_held k z m p q t b h e is has sum same set i s ps qs d pays =
     let money : balance s q t ≡ number_at d.numbers h = d.seen.accounts (account_of q t) ∙ ap (number_at d.numbers) (sym has) in
     let below = subst (λ (l : Linear). IsBelow k.symbols.next l) (sym has) (held_below any_runs k i s ps d q t) in
@@ -67,7 +69,7 @@ less_is : (x y n : ℤ) → n ≡ neg_ℤ y → x +ℤ n ≡ x -ℤ y
 less_is x y n e = omega (arith, ints, e)
 
 pub takes_held : (k z m : Known) (p q : Party) (t : Token) (b h e : Linear) → b ≡ held k.view.paid (account_of p t) → h ≡ held k.view.accounts (account_of q t) → GivesDifference k.symbols z.symbols b h e → z.view ≡ k.view
-    → m ≡ known z.symbols (record (z.view) { paid = (account_of p t, e) ∷ z.view.paid }) → TakesHeld k m p q t
+    → IsAsKnown (with_paid z p t e) m → TakesHeld k m p q t
 takes_held k z m p q t b h e is has gap same set i s ps qs d pays =
     let r = d.numbers in
     let o = held k.view.paid (account_of p t) in
@@ -81,7 +83,7 @@ takes_held k z m p q t b h e is has gap same set i s ps qs d pays =
     let money : balance s q t ≡ number_at r l = d.seen.accounts (account_of q t) in
     let now : number_at g.values (held z.view.paid (account_of p t)) +ℤ neg_ℤ (balance s q t) ≡ number_at g.values e =
     ap (λ x. x +ℤ neg_ℤ (balance s q t)) before ∙ less_is (number_at r o) (number_at r l) (neg_ℤ (balance s q t)) (ap neg_ℤ money) ∙ g.number in
-    subst (λ (x : Known). IsDescribed any_runs x i s qs) (sym set)
+    described_as any_runs (with_paid z p t e) m i s qs set
     (record {
       closed = g.closed;
       below = record { accounts = f.below.accounts; choices = f.below.choices; bound = f.below.bound; paid = (g.below, f.below.paid); start = f.below.start; end = f.below.end; times = f.below.times };

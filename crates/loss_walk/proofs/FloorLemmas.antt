@@ -21,8 +21,9 @@ use Rattle.analysis_walk.specs.Spans.{nothing}
 use Rattle.analysis_walk.specs.Rows.{range_of}
 use Rattle.analysis_walk.proofs.ListLaws.{all_append, all_left, all_right, all_weaker}
 use Rattle.analysis_values.specs.Known.{Known, held, IsDescribed}
-use Rattle.analysis_values.specs.Entries.{keys_of}
+use Rattle.analysis_values.specs.Entries.{keys_of, other_keys}
 use Rattle.analysis_values.proofs.AccountLaws.{account_decides}
+use Rattle.analysis_values.proofs.NamedLaws.{named_or}
 use Rattle.analysis_steps.proofs.CloseLaws.{closes_by}
 use Rattle.loss_walk.specs.declared.floor.Floor.{Floor}
 use Rattle.loss_walk.specs.Floors.{Rows, IsUnder, least_of, IsOneOf, IsFloor, Finds, FindsAll, Nothing, ClosesAbove, Lowers, LowersAll, IsTurned, AreFloors, Tells, NameAll}
@@ -41,6 +42,10 @@ lesser_own a b c h n k = reaches n c a k h
 found : (x : Account) (f : Floor) (old new : Rows) → new ≡ put account_cmp x f old → (a : Account) → find account_cmp a new ≡ cond (eq_by_cmp account_cmp a x) (Some f) (find account_cmp a old)
 found x f old new e a = ap (find account_cmp a) e ∙ find-put account_cmp account_total a x f old
 
+under_least : (o : Option ℤ) (n y : ℤ) → IsUnder o n → IfSome o (λ m. m ≤ℤ y) → n ≤ℤ y
+under_least None n y h k = absurd h
+under_least (Some m) n y h k = reaches n m y h k
+
 -- a floor of the new rows, by whether it is of this account
 module _ (x : Account) (f : Floor) (old : Rows) (own : (n : ℤ) → IsUnder f.least n → IsUnder (least_of (find account_cmp x old)) n) where
   kept_at : (a : Account) (n : ℤ) (t : Bool) → eq_by_cmp account_cmp a x ≡ t → IsUnder (least_of (cond t (Some f) (find account_cmp a old))) n → IsUnder (least_of (find account_cmp a old)) n
@@ -54,10 +59,6 @@ module _ (x : Account) (f : Floor) (old : Rows) (own : (n : ℤ) → IsUnder f.l
   pub noted_finds : (new : Rows) → new ≡ put account_cmp x f old → FindsAll Nothing old new
   noted_finds new e asked a n h = ((h.0, kept_at a n (eq_by_cmp account_cmp a x) refl (subst (λ (o : Option Floor). IsUnder (least_of o) n) (found x f old new e a) h.1)), tt)
 
-  under_least : (o : Option ℤ) (n y : ℤ) → IsUnder o n → IfSome o (λ m. m ≤ℤ y) → n ≤ℤ y
-  under_least None n y h k = absurd h
-  under_least (Some m) n y h k = reaches n m y h k
-
   pub lowers_finds : (k : Known) (span : Span) (new : Rows) → ((n : ℤ) → IsUnder f.least n → IsUnder span.least n) → ClosesIn IsDescribed k (range_of x span ∷ []) → new ≡ put account_cmp x f old → FindsAll (Lowers k x) old new
   lowers_finds k span new other closes e asked a n h =
       let there = subst (λ (o : Option Floor). IsUnder (least_of o) n) (found x f old new e a) h.1 in (
@@ -65,6 +66,14 @@ module _ (x : Account) (f : Floor) (old : Rows) (own : (n : ℤ) → IsUnder f.l
         λ q. subst (λ (z : Account). ClosesAbove k z n) (sym q)
             (λ i s ps d. under_least span.least n _ (other n (own_at a n (eq_by_cmp account_cmp a x) refl q there)) (closes any_runs i s ps d).0.0),
       )
+
+-- the row stays, where it is no higher than what was paid at least
+pub kept_finds : (k : Known) (x : Account) (rows : Rows) (span : Span) → ((n : ℤ) → IsUnder (least_of (find account_cmp x rows)) n → IsUnder span.least n) → ClosesIn IsDescribed k (range_of x span ∷ []) → FindsAll (Lowers k x) rows rows
+kept_finds k x rows span low closes asked a n h = (
+  h,
+  λ q. subst (λ (z : Account). ClosesAbove k z n) (sym q)
+      (λ i s ps d. under_least span.least n _ (low n (subst (λ (z : Account). IsUnder (least_of (find account_cmp z rows)) n) q h.1)) (closes any_runs i s ps d).0.0),
+)
 
 pub nothing_noted : (rows : Rows) → FindsAll Nothing rows rows
 nothing_noted rows asked a n h = (h, tt)
@@ -86,14 +95,6 @@ lowers_all k xs i old now l h = subst (λ (ys : List Account). FindsAll (LowersA
 
 -- ---- who isn't named
 
-looked : (P : Type 0) (a : Account) (es : List (Account × Linear)) → AllByRecursion (λ x. a ≡ x → P) (keys_of es) → (find account_cmp a es ≡ None) ⊎ P
-looked P a [] h = inl refl
-looked P a (e ∷ es) h = by_test (eq_by_cmp account_cmp a e.0) refl (looked P a es h.1)
-  where
-    by_test : (t : Bool) → eq_by_cmp account_cmp a e.0 ≡ t → (find account_cmp a es ≡ None) ⊎ P → (cond t (Some e.1) (find account_cmp a es) ≡ None) ⊎ P
-    by_test true q r = inr (h.0 ((account_decides a e.0).0 q))
-    by_test false q r = r
-
 holds_zero : (es : List (Account × Linear)) (a : Account) → find account_cmp a es ≡ None → number (pos 0) ≡ held es a
 holds_zero es a e = ap (λ (o : Option Linear). unwrap_or o (number (pos 0))) (sym e)
 
@@ -103,28 +104,25 @@ module _ (k : Known) (a : Account) (n : ℤ) (low : n ≤ℤ pos 0) where
       let c = closes_by k a.owner a.token (number (pos 0)) (number (pos 0)) nothing (holds_zero k.view.paid a f) (holds_zero k.view.accounts a e) (λ r x y. le_itself (pos 0)) (λ r x y. le_itself (pos 0)) in
       reaches n (pos 0) _ low (c any_runs i s ps d).0.0
 
-  above : LowersAll k (keys_of k.view.accounts ++ keys_of k.view.paid) a n → ClosesAbove k a n
-  above h =
-      by_accounts (looked (ClosesAbove k a n) a k.view.accounts (all_left (λ x. Lowers k x a n) (keys_of k.view.accounts) (keys_of k.view.paid) h))
-      (looked (ClosesAbove k a n) a k.view.paid (all_right (λ x. Lowers k x a n) (keys_of k.view.accounts) (keys_of k.view.paid) h))
+  above : LowersAll k (keys_of k.view.accounts ++ other_keys k.view.accounts k.view.paid) a n → ClosesAbove k a n
+  above h = by_named (named_or a (ClosesAbove k a n) k.view.accounts k.view.paid h)
     where
-      by_accounts : (find account_cmp a k.view.accounts ≡ None) ⊎ ClosesAbove k a n → (find account_cmp a k.view.paid ≡ None) ⊎ ClosesAbove k a n → ClosesAbove k a n
-      by_accounts (inr p) q = p
-      by_accounts (inl e) (inr p) = p
-      by_accounts (inl e) (inl f) = unnamed e f
+      by_named : ((find account_cmp a k.view.accounts ≡ None) × (find account_cmp a k.view.paid ≡ None)) ⊎ ClosesAbove k a n → ClosesAbove k a n
+      by_named (inl none) = unnamed none.0 none.1
+      by_named (inr p) = p
 
 asked_so : (k : Known) (a : Account) (n : ℤ) (xs : List Account) → LowersAll k xs a n → IsOneOf xs a → ClosesAbove k a n
 asked_so k a n [] h w = absurd w
 asked_so k a n (x ∷ xs) h (inl e) = h.0 e
 asked_so k a n (x ∷ xs) h (inr w) = asked_so k a n xs h.1 w
 
-pub closes_found : (k : Known) (names asked : List Account) (old now new : Rows) → names ≡ keys_of k.view.accounts ++ keys_of k.view.paid → FindsAll (LowersAll k names) old now → FindsAll (LowersAll k asked) now new → Finds asked (ClosesAbove k) old new
+pub closes_found : (k : Known) (names asked : List Account) (old now new : Rows) → names ≡ keys_of k.view.accounts ++ other_keys k.view.accounts k.view.paid → FindsAll (LowersAll k names) old now → FindsAll (LowersAll k asked) now new → Finds asked (ClosesAbove k) old new
 closes_found k names asked old now new e named also a n f =
     let u = also asked a n f in
     let w = named asked a n u.0 in
     (w.0, by_wanted f.0 (subst (λ (xs : List Account). LowersAll k xs a n) e w.1) u.1)
   where
-    by_wanted : (n ≤ℤ pos 0) ⊎ IsOneOf asked a → LowersAll k (keys_of k.view.accounts ++ keys_of k.view.paid) a n → LowersAll k asked a n → ClosesAbove k a n
+    by_wanted : (n ≤ℤ pos 0) ⊎ IsOneOf asked a → LowersAll k (keys_of k.view.accounts ++ other_keys k.view.accounts k.view.paid) a n → LowersAll k asked a n → ClosesAbove k a n
     by_wanted (inl low) h g = above k a n low h
     by_wanted (inr one) h g = asked_so k a n asked g one
 

@@ -43,7 +43,7 @@ fn put_held(known: &mut Known, party: &Party, owner: &Party, token: &Token) -> R
     let before = known.paid(party, token)?;
     let held = known.held(owner, token)?;
     let total = sum(known, &before, &held)?;
-    known.set_paid(party, token, total)
+    known.replace_paid(party, token, total)
 }
 
 // It is paid as much less.
@@ -53,7 +53,7 @@ fn take_held(known: &mut Known, party: &Party, owner: &Party, token: &Token) -> 
     let before = known.paid(party, token)?;
     let held = known.held(owner, token)?;
     let total = difference(known, &before, &held)?;
-    known.set_paid(party, token, total)
+    known.replace_paid(party, token, total)
 }
 
 // A deposit: what the account holds before it, less what it holds afterwards, is what its party is paid by it.

@@ -1,9 +1,9 @@
 //! Floors of all parties and tokens, as far as a walk has come.
-ghost use Rattle.std.specs.Prelude.{OnOk};
-ghost use Rattle.loss_walk.specs.Floors.{Finds, FindsAll, Nothing, ClosesAbove, LowersAll, Lowers};
+ghost use Rattle.std.specs.Prelude.{◌≡◌, ℤ, true, OnOk};
+ghost use Rattle.loss_walk.specs.Floors.{Finds, FindsAll, Nothing, ClosesAbove, LowersAll, Lowers, IsUnder, least_of};
 
-use crate::floor::{Floor, lowered, noted};
-use analysis_steps::close;
+use crate::floor::{Floor, least_of, lowered, noted};
+use analysis_steps::close_beside;
 use analysis_values::Known;
 use contract::{Account, Action, Entries, Memory, TryClone};
 
@@ -43,10 +43,34 @@ fn put_one(
 ) -> Result<(), Memory>
     ensures { OnOk result (FindsAll (Lowers known.now account.now) rows.old rows.new) }
 {
-    let span = close(known, account)?;
     let row = rows.get(account);
+    let span = close_beside(known, account, least_of(row))?;
+    if is_kept(row, span.least) {
+        return Ok(());
+    }
     rows.set(account, lowered(row, span.least))?;
     Ok(())
+}
+
+// Whether there is a row that stays as it is where so much was paid at least.
+fn is_kept(row: Option<Floor>, least: Option<i128>) -> bool
+    ensures { result ≡ true → (n : ℤ) → IsUnder (least_of row) n → IsUnder least n }
+{
+    match row {
+        Some(floor) => is_under(floor.least, least),
+        None => false,
+    }
+}
+
+// Whether a floor is no higher than so much.
+fn is_under(floor: Option<i128>, least: Option<i128>) -> bool
+    ensures { result ≡ true → (n : ℤ) → IsUnder floor n → IsUnder least n }
+{
+    match (floor, least) {
+        (None, _) => true,
+        (Some(floor), Some(least)) => floor <= least,
+        (Some(_), None) => false,
+    }
 }
 
 /// Notes who brings something by an action, if it can come.

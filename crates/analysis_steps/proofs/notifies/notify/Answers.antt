@@ -1,7 +1,10 @@
 use Rattle.contract.specs.Tree.{observation_tree}
 use Rattle.analysis_walk.specs.Knowledge.{actions_before}
-use Rattle.analysis_steps.proofs.EarlierLemmas.{notifies_never, notifies_so}
+use Rattle.analysis_steps.proofs.EarlierLemmas.{notifies_false, notifies_never, notifies_so}
 use Rattle.analysis_steps.proofs.notifies.notify.Goals as goal
+
+pub returns-then-says_false : goal.returns-then-says_false
+returns-then-says_false c = notifies_false c.args.known (actions_before c.args.earlier.now) (observation_tree c.args.observation.now) _ (c.says_false.ensures c.if-says_false.true)
 
 pub returns-then-taken : goal.returns-then-taken
 returns-then-taken c =
