@@ -1,10 +1,9 @@
 -- What parties are paid where a contract is closed, account by account.
-use Rattle.std.proofs.Common.{◌≡◌, ℕ, ◌<◌, ◌≤◌, ◌+◌, ℤ, pos, ◌+ℤ◌, ◌≤ℤ◌, Bool, true, false, cond, List, [], ◌∷◌, ◌++◌, take, length, refl, sym, ap, subst, ◌∙◌, Option, Some, None, IfSome, ◌⊎◌, inl, inr, arith}
+use Rattle.std.proofs.Common.{◌≡◌, ℕ, ◌<◌, ◌≤◌, ◌+◌, ℤ, pos, ◌≤ℤ◌, Bool, true, false, cond, List, [], ◌∷◌, ◌++◌, take, length, refl, sym, ap, subst, ◌∙◌, Option, Some, None, IfSome, ◌⊎◌, inl, inr, arith}
 use Rattle.std.specs.Prelude.{is_some}
 use Rattle.std.proofs.lemmas.Int.{ints}
 use Rattle.std.proofs.Math.ListN.{get_or}
 use Rattle.std.proofs.lemmas.List.{take_more, take_all}
-use Rattle.std.specs.List.{AllByRecursion}
 use Rattle.std.specs.Option.{unwrap_or}
 use Rattle.std.specs.Ordering.{eq_by_cmp}
 use Rattle.std.specs.FinMap.Entries.{find, put, find-put}
@@ -16,8 +15,7 @@ use Rattle.contract.specs.Names.Totals.{account_total}
 use Rattle.contract.proofs.FromNames.Exact.{account_exact}
 use Rattle.contract.proofs.FromNames.EqualLaws.{order_decides}
 use Rattle.semantics.specs.Reduction.{account_of}
-use Rattle.linear.specs.Linear.{Linear, number_at, number}
-use Rattle.linear.specs.Bounded.{IsFromAll, IsUpToAll}
+use Rattle.linear.specs.Linear.{Linear, number}
 use Rattle.analysis_walk.specs.Conclusions.{ClosesIn}
 use Rattle.analysis_walk.proofs.ListLaws.{all_append, all_weaker}
 use Rattle.analysis_values.specs.Known.{Known, held, IsDescribed}
@@ -25,7 +23,7 @@ use Rattle.analysis_values.specs.Entries.{keys_of, other_keys}
 use Rattle.analysis_values.proofs.NamedLaws.{named_or}
 use Rattle.analysis_steps.proofs.CloseLaws.{closes_by}
 use Rattle.analysis_walk.specs.declared.span.Span.{Span}
-use Rattle.analysis_walk.specs.Spans.{nothing, range_at}
+use Rattle.analysis_walk.specs.Spans.{nothing}
 use Rattle.analysis_walk.specs.Rows.{range_of}
 use Rattle.analysis_walk.specs.Knowledge.{ClosesBy}
 use Rattle.analysis.specs.Closes.{ArePaid, IsNamed, NamesAll, Puts}
