@@ -19,7 +19,7 @@ import sys
 from pathlib import Path
 
 TOP = Path(__file__).resolve().parent.parent
-MOST = 125_000
+MOST = 126_000
 sys.path.insert(0, str(TOP / "tools"))
 from above import crates  # noqa: E402
 from passed_on import PASSED_ON, uses, way  # noqa: E402

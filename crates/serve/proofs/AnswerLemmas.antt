@@ -3,34 +3,34 @@ use Rattle.std.proofs.Common.{◌≡◌, ℕ, List, [], Bool, true, false, Some,
 use Rattle.std.specs.declared.option.Option.{Option}
 use Rattle.contract.specs.declared.tree.Contract.{Contract}
 use Rattle.contract.specs.Tree.{contract_tree}
-use Rattle.marlowe_trace.specs.ContractJson.PartAt.{part_at}
+use Rattle.request_answers.specs.MarloweTrace.ContractJson.PartAt.{part_at}
 use Rattle.serde_json.specs.Data.{Data}
 use Rattle.json_tree.specs.View.{read_within}
 use Rattle.json_tree.specs.declared.read.Refusal.{Refusal as Unread}
 use Rattle.json_tree.specs.declared.read.Refusal.TheVariants as unread
-use Rattle.marlowe_trace.specs.JsonReadContracts.ReadsContract.{contract}
-use Rattle.marlowe_trace.specs.JsonWriteContracts.WrittenContract.{contract_fits}
-use Rattle.marlowe_run.specs.declared.readable.Readable.{Readable}
-use Rattle.request_reasons.specs.Definitions.declared.definition.Definition.{Definition}
-use Rattle.request_reasons.specs.Definitions.Named.{has_room, put_named}
-use Rattle.request_reasons.specs.Requests.Ids.{SpellsId, id_of}
-use Rattle.request_reasons.specs.Requests.Requests.{Asked, IsMember, is_object, request_of}
-use Rattle.request_reasons.specs.Requests.declared.kind.Kind.{Kind}
-use Rattle.request_reasons.proofs.FromRequestParts.FitLaws.{fit_member}
-use Rattle.request_reasons.specs.RequestParts.Answered.{ok_answer, reasoned_answer, refused_answer}
-use Rattle.request_reasons.specs.RequestParts.PartsSupport.{AllFit}
-use Rattle.request_reasons.specs.RequestParts.declared.refusal.LineFault.TheVariants as lines
-use Rattle.request_reasons.specs.RequestParts.declared.refusal.Refusal.{Refusal}
-use Rattle.request_reasons.specs.RequestParts.declared.refusal.Refusal.TheVariants as refusals
+use Rattle.request_answers.specs.MarloweTrace.JsonReadContracts.ReadsContract.{contract}
+use Rattle.request_answers.specs.MarloweTrace.JsonWriteContracts.WrittenContract.{contract_fits}
+use Rattle.request_answers.specs.MarloweTrace.MarloweRun.declared.readable.Readable.{Readable}
+use Rattle.request_answers.specs.RequestReasons.Definitions.declared.definition.Definition.{Definition}
+use Rattle.request_answers.specs.RequestReasons.Definitions.Named.{has_room, put_named}
+use Rattle.request_answers.specs.RequestReasons.Requests.Ids.{SpellsId, id_of}
+use Rattle.request_answers.specs.RequestReasons.Requests.Requests.{Asked, IsMember, is_object, request_of}
+use Rattle.request_answers.specs.RequestReasons.Requests.declared.kind.Kind.{Kind}
+use Rattle.request_answers.proofs.FromRequestParts.FitLaws.{fit_member}
+use Rattle.request_answers.specs.RequestReasons.RequestParts.Answered.{ok_answer, reasoned_answer, refused_answer}
+use Rattle.request_answers.specs.RequestReasons.RequestParts.PartsSupport.{AllFit}
+use Rattle.request_answers.specs.RequestReasons.RequestParts.declared.refusal.LineFault.TheVariants as lines
+use Rattle.request_answers.specs.RequestReasons.RequestParts.declared.refusal.Refusal.{Refusal}
+use Rattle.request_answers.specs.RequestReasons.RequestParts.declared.refusal.Refusal.TheVariants as refusals
 use Rattle.serve.specs.Answers.{AnswersAsked, IsAnswerOf, IsLineAnswer, TellsRequest, TellsValue, answer_by}
-use Rattle.serve.specs.Playing.{Plays}
-use Rattle.serve.specs.Defining.{Changes, ChangesIfRoom, Forgets, Puts, TakesAway, named_so}
-use Rattle.serve.specs.Reasoned.{MayTell, WithReason}
-use Rattle.serve.specs.ReasonedSupport.{RefusedSo}
-use Rattle.serve.proofs.ReasonLemmas.{with_none, with_same}
-use Rattle.marlowe_trace.specs.JsonReadNames.declared.fault.JsonFault.TheVariants as json
-use Rattle.request_reasons.specs.RequestParts.declared.refusal.Part.TheVariants as parts
-use Rattle.request_reasons.specs.Requests.declared.kind.Kind.TheVariants as kinds
+use Rattle.request_answers.specs.Playing.{Plays}
+use Rattle.request_answers.specs.Definition.{named_so}
+use Rattle.serve.specs.Defining.{Changes, ChangesIfRoom, Forgets, Puts, TakesAway}
+use Rattle.request_answers.specs.Reasoned.{MayTell, RefusedSo, WithReason}
+use Rattle.request_answers.proofs.ReasonLaws.{with_none, with_same}
+use Rattle.request_answers.specs.MarloweTrace.JsonReadNames.declared.fault.JsonFault.TheVariants as json
+use Rattle.request_answers.specs.RequestReasons.RequestParts.declared.refusal.Part.TheVariants as parts
+use Rattle.request_answers.specs.RequestReasons.Requests.declared.kind.Kind.TheVariants as kinds
 
 pub fit_request : (whole body : Data) → AllFit whole → IsMember whole body → AllFit body
 fit_request whole body h (key, is) = fit_member whole body key h (sym is)

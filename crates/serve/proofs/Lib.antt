@@ -1,4 +1,3 @@
-pub mod ReasonLemmas
-pub mod AskingLemmas
+pub mod AskedLemmas
 pub mod AnswerLemmas
 pub mod StreamLemmas

@@ -7,13 +7,13 @@ use Rattle.std.specs.declared.alloc.AllocError.{AllocError}
 use Rattle.std.specs.Io.KnownBytes.{Appends, Consumes, IsAtEnd}
 use Rattle.std.specs.declared.option.Option.{Option}
 use Rattle.std.proofs.KnownBytes.{Appends-trans}
-use Rattle.request_reasons.specs.Definitions.declared.definition.Definition.{Definition}
+use Rattle.request_answers.specs.RequestReasons.Definitions.declared.definition.Definition.{Definition}
 use Rattle.lines_in.specs.Held.{Held, come}
 use Rattle.lines_in.specs.Lines.{Line, lines_of}
 use Rattle.lines_in.specs.Lines as in_lines
-use Rattle.marlowe_run.specs.declared.readable.Readable.{Readable}
+use Rattle.request_answers.specs.MarloweTrace.MarloweRun.declared.readable.Readable.{Readable}
 use Rattle.serve.specs.Answers.{IsAnswerWith, IsTooLongAnswer}
-use Rattle.serve.specs.Playing.{Plays}
+use Rattle.request_answers.specs.Playing.{Plays}
 use Rattle.serve.specs.Streams.{Answered, IsServed, IsServedSoFar, Serves}
 use Rattle.serve.specs.StreamsSupport.{Adds, Sent, StillCome, Going, Stopped, put_text}
 

@@ -2,32 +2,29 @@
 use Rattle.std.specs.Prelude.{◌≡◌, ℕ, Bool, true, false, List, length, Option, Some, None, Result, Ok, Err}
 use Rattle.serde_json.specs.Data.{Data}
 use Rattle.json_tree.specs.declared.read.Refusal.{Refusal as Unread}
-use Rattle.marlowe_run.specs.declared.readable.Readable.{Readable}
-use Rattle.request_reasons.specs.Definitions.declared.definition.Definition.{Definition}
-use Rattle.request_reasons.specs.Requests.Ids.{SpellsId, id_of}
-use Rattle.request_reasons.specs.Requests.Requests.{Asked, is_object, line_json, request_of}
-use Rattle.request_reasons.specs.Requests.declared.kind.Kind.{Kind}
-use Rattle.request_reasons.specs.Requests.declared.kind.Kind.TheVariants as kinds
+use Rattle.request_answers.specs.MarloweTrace.MarloweRun.declared.readable.Readable.{Readable}
+use Rattle.request_answers.specs.RequestReasons.Definitions.declared.definition.Definition.{Definition}
+use Rattle.request_answers.specs.RequestReasons.Requests.Ids.{SpellsId, id_of}
+use Rattle.request_answers.specs.RequestReasons.Requests.Requests.{Asked, is_object, line_json, request_of}
+use Rattle.request_answers.specs.RequestReasons.Requests.declared.kind.Kind.{Kind}
+use Rattle.request_answers.specs.RequestReasons.Requests.declared.kind.Kind.TheVariants as kinds
 use Rattle.serde_json.specs.Find.{as_str}
-use Rattle.request_reasons.specs.RequestParts.Answered.{answered, answered_trace, refused_answer}
-use Rattle.serve.specs.Commands.{run_told, table_told, trace_told}
-use Rattle.serve.specs.Asking.{TellsAnalysis, TellsNext}
-use Rattle.serve.specs.Defining.{Changes, Forgets, definition_told}
-use Rattle.serve.specs.Encoding.{bytes_told}
-use Rattle.serve.specs.Playing.{AnswersPlay, Plays, no_play}
-use Rattle.serve.specs.Reading.{read_told}
-use Rattle.serve.specs.Reasoned.{MayTell, WithReason}
-use Rattle.request_reasons.specs.RequestParts.declared.refusal.LineFault.TheVariants as lines
-use Rattle.request_reasons.specs.RequestParts.declared.refusal.Refusal.{Refusal}
-use Rattle.request_reasons.specs.RequestParts.declared.refusal.Refusal.TheVariants as refusals
+use Rattle.request_answers.specs.RequestReasons.RequestParts.Answered.{answered, answered_trace, refused_answer}
+use Rattle.request_answers.specs.Commands.{run_told, table_told, trace_told}
+use Rattle.request_answers.specs.Asking.{TellsAnalysis, TellsNext}
+use Rattle.request_answers.specs.Definition.{definition_told}
+use Rattle.serve.specs.Defining.{Changes, Forgets}
+use Rattle.request_answers.specs.Encoding.{bytes_told}
+use Rattle.request_answers.specs.Playing.{AnswersPlay, Plays, no_play}
+use Rattle.request_answers.specs.Reading.{read_told}
+use Rattle.request_answers.specs.Reasoned.{AnswersBy, MayTell, WithReason}
+use Rattle.request_answers.specs.RequestReasons.RequestParts.declared.refusal.LineFault.TheVariants as lines
+use Rattle.request_answers.specs.RequestReasons.RequestParts.declared.refusal.Refusal.{Refusal}
+use Rattle.request_answers.specs.RequestReasons.RequestParts.declared.refusal.Refusal.TheVariants as refusals
 
 -- the names stay
 abbrev pub Stays : List Definition → List Definition → Type 0 → Type 0
 Stays defs after tells = tells × (after ≡ defs)
-
--- an answer under an id to what is told so
-unfoldable pub AnswersBy : (Result (List ℕ) Refusal → Type 0) → List ℕ → List ℕ → List ℕ → Type 0
-AnswersBy Tells id text reason = (told : Result (List ℕ) Refusal) × Tells told × (text ≡ answered id told reason)
 
 -- what a request is answered under an id, where plays are told so, and the names that stand behind it; where it is refused, with a reason
 abbrev pub TellsAsked : Plays → Readable → List Definition → ℕ → Kind → Data → List ℕ → List ℕ → List Definition → List ℕ → Type 0

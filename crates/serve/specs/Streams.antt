@@ -1,11 +1,11 @@
 -- What a whole stream is answered.
 use Rattle.std.specs.Prelude.{◌≡◌, ◌⊎◌, ℕ, suc, List, [], ◌∷◌, ◌++◌, codes, Some, None}
 use Rattle.std.specs.declared.option.Option.{Option}
-use Rattle.request_reasons.specs.Definitions.declared.definition.Definition.{Definition}
+use Rattle.request_answers.specs.RequestReasons.Definitions.declared.definition.Definition.{Definition}
 use Rattle.lines_in.specs.Lines.{Line, lines_of, text, too_long}
-use Rattle.marlowe_run.specs.declared.readable.Readable.{Readable}
+use Rattle.request_answers.specs.MarloweTrace.MarloweRun.declared.readable.Readable.{Readable}
 use Rattle.serve.specs.Answers.{IsAnswerWith, IsTooLongAnswer}
-use Rattle.serve.specs.Playing.{Plays}
+use Rattle.request_answers.specs.Playing.{Plays}
 
 -- the answer where memory is refused
 abbrev pub no_memory : List ℕ

@@ -5,11 +5,11 @@ use Rattle.std.specs.declared.vec.Vec.{Vec}
 use Rattle.std.specs.declared.alloc.Global.{Global}
 use Rattle.std.specs.declared.alloc.AllocError.{AllocError}
 use Rattle.std.specs.Io.KnownBytes.{Appends}
-use Rattle.request_reasons.specs.Definitions.declared.definition.Definition.{Definition}
+use Rattle.request_answers.specs.RequestReasons.Definitions.declared.definition.Definition.{Definition}
 use Rattle.lines_in.specs.Held.{Held, come}
 use Rattle.lines_in.specs.Lines.{Line, lines_of}
-use Rattle.marlowe_run.specs.declared.readable.Readable.{Readable}
-use Rattle.serve.specs.Playing.{Plays}
+use Rattle.request_answers.specs.MarloweTrace.MarloweRun.declared.readable.Readable.{Readable}
+use Rattle.request_answers.specs.Playing.{Plays}
 use Rattle.serve.specs.Streams.{IsServedSoFar, Serves, no_memory}
 
 -- with a text behind what waits, some bytes have gone out, and the others wait

@@ -3,19 +3,17 @@ ghost use Rattle.std.specs.Prelude.{◌≡◌, ◌≤◌, ◌<◌, ◌+◌, ◌-
 ghost use Rattle.std.specs.declared.option.Option.{Option};
 ghost use Rattle.std.specs.Io.KnownBytes.{Appends};
 ghost use Rattle.lines_in.specs.Held.{come};
-ghost use Rattle.marlowe_run.specs.declared.readable.Readable.{Readable};
+ghost use Rattle.request_answers.specs.MarloweTrace.MarloweRun.declared.readable.Readable.{Readable};
 ghost use Rattle.serve.specs.declared.stream.Ended.TheVariants as endings;
-ghost use Rattle.serve.specs.Playing.{no_play};
+ghost use Rattle.request_answers.specs.Playing.{no_play};
 ghost use Rattle.serve.specs.Streams.{IsServed, IsServedSoFar};
 ghost use Rattle.serve.specs.StreamsSupport.{Adds, Going, Stopped, put_text};
 
 use crate::line_answers::{answer_too_long, answer_with};
-use crate::player::{NoPlayer, Player};
 use contract::Memory;
 use lines_in::{Lines, Step};
 use marlowe_io::{Sink, Source, Unwritable, emit};
-use marlowe_run::Readable;
-use request_reasons::Definitions;
+use request_answers::{Definitions, NoPlayer, Player, Readable};
 use std::alloc::Global;
 
 // How many bytes of answers wait at most before they are written.

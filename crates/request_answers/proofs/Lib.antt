@@ -1,0 +1,4 @@
+pub mod ReasonLaws
+mod ReasonLemmas
+mod AskingLemmas
+pub mod FromRequestParts
