@@ -8,7 +8,7 @@ ghost use Rattle.unread_notes.specs.Notes.{AreNotes, KeyStands, PutsLine, PutsLi
 use crate::lines::{KEPT, MOST, put_more, put_told};
 use crate::standing::{offset_behind, sure_offset};
 use collections::Memory;
-use json::Scratch;
+use json::{Reader, Scratch};
 use json_forms::Sort;
 use std::alloc::Global;
 use text_spots::{Spot, spot_at, spot_from};
@@ -83,7 +83,7 @@ fn put_lines(
     }
 }
 
-// Each begins so many tokens behind the last one.
+// Each begins where a reader stands that goes on from one key to the next.
 fn put_some_lines(
     alloc: Global,
     out: &mut Vec<u8>,
@@ -94,11 +94,12 @@ fn put_some_lines(
     ensures { OnOk result (PutsLines file.now text.now (map note_of keys.now) out.old.items out.new.items) }
 {
     let mut scratch = Scratch::new(alloc);
+    let mut reader = Reader::new(text, &mut scratch)?;
+    let mut other = Scratch::new(alloc);
     let mut place = beginning(text);
     for key in keys {
-        let more = key.tokens.saturating_sub(place.tokens);
-        let offset = offset_behind(text.as_bytes(), place.offset, more);
-        place = put_line(alloc, out, &mut scratch, file, text, place, offset, key)?;
+        let offset = offset_behind(&mut reader, place.tokens, key.tokens);
+        place = put_line(alloc, out, &mut other, file, text, place, offset, key)?;
     }
     Ok(())
 }

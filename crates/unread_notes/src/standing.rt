@@ -9,63 +9,12 @@ ghost use Rattle.unread_notes.specs.Notes.{KeyStands};
 use collections::Memory;
 use json::{Reader, Scratch, Token};
 
-// Where a byte of a text lies.
-#[derive(Clone, Copy)]
-enum Inside {
-    // Between tokens.
-    Gap,
-    // In a number or a word.
-    Word,
-    // In a text.
-    Text,
-    // Behind the stroke of an escape in a text.
-    Escape,
-}
-
-/// Where the next token seems to begin once so many are passed, from an offset at which one begins: a look at each byte, which reads no
-/// token. The end of the text where there are not so many.
-pub(crate) fn offset_behind(text: &[u8], from: usize, tokens: usize) -> usize {
-    let mut left = tokens;
-    let mut inside = Inside::Gap;
-    for at in from..text.len() {
-        let next = behind_byte(inside, text[at]);
-        if begins_token(inside, next, text[at]) {
-            if left == 0 {
-                return at;
-            }
-            left -= 1;
-        }
-        inside = next;
+/// Where a reader that has taken so many tokens stands once it has taken others, up to so many.
+pub(crate) fn offset_behind(reader: &mut Reader<'_>, taken: usize, wanted: usize) -> usize {
+    for _ in taken..wanted {
+        let _ = reader.next();
     }
-    text.len()
-}
-
-#[inline(always)]
-fn behind_byte(inside: Inside, byte: u8) -> Inside {
-    match inside {
-        Inside::Escape => Inside::Text,
-        Inside::Text => match byte {
-            b'"' => Inside::Gap,
-            b'\\' => Inside::Escape,
-            _ => Inside::Text,
-        },
-        Inside::Gap | Inside::Word => match byte {
-            b'"' => Inside::Text,
-            b' ' | b'\t' | b'\n' | b'\r' | b',' | b':' | b'{' | b'}' | b'[' | b']' => Inside::Gap,
-            _ => Inside::Word,
-        },
-    }
-}
-
-// Whether a token begins with a byte: a bracket, a text, or the first of a number or a word.
-#[inline(always)]
-fn begins_token(inside: Inside, next: Inside, byte: u8) -> bool {
-    match (inside, next) {
-        (Inside::Gap, Inside::Word) => true,
-        (Inside::Gap | Inside::Word, Inside::Text) => true,
-        (Inside::Gap | Inside::Word, Inside::Gap) => { matches!(byte, b'{' | b'}' | b'[' | b']') }
-        _ => false,
-    }
+    reader.offset()
 }
 
 /// The offset, if the text goes on with the key there, or else the end of the text. `scratch` serves one text after another.
