@@ -1,7 +1,7 @@
 -- The notes of lists and objects.
-use Rattle.std.proofs.Common.{◌≡◌, ℕ, zero, suc, ◌+◌, ◌<◌, ◌≤◌, List, [], ◌∷◌, ◌++◌, length, get_or, drop, map, Option, Result, Vec, Global, refl, sym, ap, ◌∙◌, subst, rules}
+use Rattle.std.proofs.Common.{◌≡◌, ℕ, ◌+◌, ◌<◌, ◌≤◌, List, [], ◌∷◌, ◌++◌, length, get_or, drop, map, Option, Result, Vec, Global, refl, sym, ap, ◌∙◌, subst, rules}
 use Rattle.std.proofs.lemmas.List.{drop_more, drop_all}
-use Rattle.json.specs.Json.{Json, array, object, Members}
+use Rattle.json.specs.Json.{array, object}
 use Rattle.json.specs.Value.{items_view, members_view, value_view}
 use Rattle.json.specs.declared.value.Value.{the_lemmas}
 use Rattle.json.specs.declared.value.Value as trees
@@ -71,20 +71,13 @@ pub keys_seen : (ms : List Entry) → keys_of (members_view ms) ≡ map (λ (m :
 keys_seen [] = refl
 keys_seen (m ∷ ms) = ap (λ ks. m.0.now ∷ ks) (keys_seen ms)
 
-dropped : {X Y : Type 0} (f : X → Y) (i : ℕ) (xs : List X) → map f (drop i xs) ≡ drop i (map f xs)
-dropped f zero xs = refl
-dropped f (suc i) [] = refl
-dropped f (suc i) (x ∷ xs) = dropped f i xs
+pub later_keys : (later members : List Entry) (i : ℕ) → later ≡ drop (i + 1) members → map (λ (m : Entry). m.0.now) later ≡ keys_of (members_view (drop (i + 1) members))
+later_keys later members i e = ap (map (λ (m : Entry). m.0.now)) e ∙ sym (keys_seen (drop (i + 1) members))
 
-pub later_keys : {V : Type 0} (f : V → List ℕ) (keys later : List V) (members : List Entry) (i : ℕ) → map f keys ≡ map (λ (m : Entry). m.0.now) members → later ≡ drop (i + 1) keys
-    → map f later ≡ keys_of (members_view (drop (i + 1) members))
-later_keys f keys later members i same e =
-    ap (map f) e ∙ dropped f (i + 1) keys ∙ ap (drop (i + 1)) same ∙ sym (dropped (λ (m : Entry). m.0.now) (i + 1) members) ∙ sym (keys_seen (drop (i + 1) members))
-
-pub object_gains : (old new : Found) (path : List Step) (sort : Sort) (members entries : List Entry) (keys : List (List ℕ)) (form : Option Form) → entries ≡ members
-    → keys ≡ map (λ (m : Entry). m.0.now) entries → form ≡ form_of sort keys → Gains old new (members_notes path form 0 (members_view entries))
+pub object_gains : (old new : Found) (path : List Step) (sort : Sort) (members entries : List Entry) (form : Option Form) → entries ≡ members
+    → form ≡ form_of sort (map (λ (m : Entry). m.0.now) entries) → Gains old new (members_notes path form 0 (members_view entries))
     → Gains old new (members_notes path (form_of sort (keys_of (members_view members))) 0 (members_view members))
-object_gains old new path sort members entries keys form all named made gains =
-    let same : form ≡ form_of sort (keys_of (members_view entries)) = made ∙ ap (form_of sort) (named ∙ sym (keys_seen entries)) in
+object_gains old new path sort members entries form all made gains =
+    let same : form ≡ form_of sort (keys_of (members_view entries)) = made ∙ ap (form_of sort) (sym (keys_seen entries)) in
     subst (λ (ms : List Entry). Gains old new (members_notes path (form_of sort (keys_of (members_view ms))) 0 (members_view ms))) all
     (subst (λ f. Gains old new (members_notes path f 0 (members_view entries))) same gains)

@@ -1,39 +1,59 @@
 //! As what the parts of a JSON value are read.
-ghost use Rattle.std.specs.Prelude.{◌≡◌, ◌+◌, drop, map};
+ghost use Rattle.std.specs.Prelude.{◌≡◌, ◌+◌, not, drop, find, is_some, map};
+ghost use Rattle.json_forms.specs.Forms.{Field, key_word};
 ghost use Rattle.json_forms.specs.Lacking.{is_there};
 ghost use Rattle.unread_keys.specs.Sorts as spec;
 
 use crate::unread::Why;
-use json_forms::{
-    Form, Key, Numbers, ScenarioSort, Sort, fields_of, forms_of, key_word, lacking_key, more_of,
-};
+use json::Value;
+use json_forms::{Form, Key, Numbers, ScenarioSort, Sort, fields_of, forms_of, key_word, more_of};
 
-/// The form by which an object with these keys is read: the first of its sort whose keys are all there.
-pub(crate) fn form_of(sort: Sort, keys: &[&str]) -> Option<Form>
-    ensures { result ≡ spec.form_of sort (map (λ key. key.now) keys.now) }
+/// The form by which an object of these members is read: the first of its sort whose keys are all there.
+pub(crate) fn form_of(sort: Sort, members: &[(&str, Value<'_>)]) -> Option<Form>
+    ensures { result ≡ spec.form_of sort (map (λ member. member.0.now) members.now) }
 {
-    first_whole(keys, forms_of(sort))
+    first_whole(members, forms_of(sort))
 }
 
-fn first_whole(keys: &[&str], forms: &[Form]) -> Option<Form>
-    ensures { result ≡ spec.first_whole (map (λ key. key.now) keys.now) forms.now }
+fn first_whole(members: &[(&str, Value<'_>)], forms: &[Form]) -> Option<Form>
+    ensures { result ≡ spec.first_whole (map (λ member. member.0.now) members.now) forms.now }
 {
     match forms {
         [] => None,
-        [form, rest @ ..] => match lacking_key(keys, *form) {
-            Some(_) => first_whole(keys, rest),
-            None => Some(*form),
-        },
+        [form, rest @ ..] => {
+            if one_lacks(members, fields_of(*form)) {
+                first_whole(members, rest)
+            } else {
+                Some(*form)
+            }
+        }
     }
 }
 
-/// The key of a member of an object of a form, with what its value is read as, or why it isn't; `later` are the keys behind it.
+// Whether one of these keys isn't there.
+fn one_lacks(members: &[(&str, Value<'_>)], fields: &[(Key, Sort)]) -> bool
+    ensures { result
+        ≡ is_some (find (λ (f : Field). not (is_there (map (λ member. member.0.now) members.now) (key_word f.0))) fields.now) }
+{
+    match fields {
+        [] => false,
+        [field, rest @ ..] => {
+            if is_there(members, key_word(field.0)) {
+                one_lacks(members, rest)
+            } else {
+                true
+            }
+        }
+    }
+}
+
+/// The key of a member of an object of a form, with what its value is read as, or why it isn't; `later` are the members behind it.
 pub(crate) fn member_field(
     form: Option<Form>,
     key: &str,
-    later: &[&str],
+    later: &[(&str, Value<'_>)],
 ) -> Result<(Key, Sort), Why>
-    ensures { result ≡ spec.member_field form key.now (map (λ key. key.now) later.now) }
+    ensures { result ≡ spec.member_field form key.now (map (λ member. member.0.now) later.now) }
 {
     let Some(field) = field_behind(form, key) else {
         return Err(Why::NoKey);
@@ -81,12 +101,12 @@ fn field_among(fields: &[(Key, Sort)], key: &str) -> Option<(Key, Sort)>
     }
 }
 
-// Whether a key is one of these.
-fn is_there(keys: &[&str], word: &str) -> bool
-    ensures { result ≡ is_there (map (λ key. key.now) keys.now) word.now }
+// Whether one of these members has a key.
+fn is_there(members: &[(&str, Value<'_>)], word: &str) -> bool
+    ensures { result ≡ is_there (map (λ member. member.0.now) members.now) word.now }
 {
-    for key in keys {
-        let same = *key == word;
+    for member in members {
+        let same = member.0 == word;
         if same {
             return true;
         }

@@ -153,25 +153,21 @@ fn walk_object<'a>(
         (form_of sort (keys_of (members_view members.now.items))) 0 (members_view members.now.items))) }
 {
     let members = members.as_slice();
-    let keys = keys_of(alloc, members)?;
-    let keys = keys.as_slice();
     pass_token(passed);
-    walk_members(alloc, passed, found, form_of(sort, keys), keys, members)?;
+    walk_members(alloc, passed, found, form_of(sort, members), members)?;
     pass_token(passed);
     Ok(())
 }
 
-// Of the members of an object of a form, which has these keys.
+// Of the members of an object of a form.
 #[cycle(walk)]
 fn walk_members<'a>(
     alloc: Global,
     passed: &mut usize,
     found: &mut Found<'a>,
     form: Option<Form>,
-    keys: &[&str],
     members: &[(&'a str, Value<'a>)],
 ) -> Result<(), Memory>
-    requires { map (λ key. key.now) keys.now ≡ map (λ member. member.0.now) members.now }
     ensures { OnOk result (Gains found.old found.new (members_notes found.old.path.items form 0 (members_view members.now))) }
 {
     for (index, member) in members.iter().enumerate() {
@@ -180,29 +176,29 @@ fn walk_members<'a>(
             passed,
             found,
             form,
-            behind(keys, index),
             index,
             member.0,
             &member.1,
+            behind(members, index),
         )?;
     }
     Ok(())
 }
 
-// Of a member, behind which these keys follow.
+// Of a member, behind which these follow. The value comes before them: the walk ends since its depth falls.
 #[cycle(walk)]
 fn walk_member<'a>(
     alloc: Global,
     passed: &mut usize,
     found: &mut Found<'a>,
     form: Option<Form>,
-    later: &[&str],
     index: usize,
     key: &'a str,
     value: &Value<'a>,
+    later: &[(&'a str, Value<'a>)],
 ) -> Result<(), Memory>
     ensures { OnOk result (Gains found.old found.new
-        (inside_or (member_field form key.now (map (λ key. key.now) later.now)) found.old.path.items index key.now
+        (inside_or (member_field form key.now (map (λ member. member.0.now) later.now)) found.old.path.items index key.now
         (λ field. notes (found.old.path.items ++ Step.Key field.0 ∷ []) field.1 (value_view value.now)))) }
 {
     walk_read(
@@ -277,22 +273,12 @@ fn copied(alloc: Global, path: &[Step]) -> Result<Vec<Step>, Memory>
     Ok(copy)
 }
 
-fn keys_of<'a>(alloc: Global, members: &[(&'a str, Value<'a>)]) -> Result<Vec<&'a str>, Memory>
-    ensures { IfOk result (λ keys. map (λ key. key.now) keys.items ≡ map (λ member. member.0.now) members.now) }
+// The members behind the one at an index.
+fn behind<'m, 'a>(members: &'m [(&'a str, Value<'a>)], index: usize) -> &'m [(&'a str, Value<'a>)]
+    ensures { result.now ≡ drop (index + 1) members.now }
 {
-    let mut keys = Vec::new(alloc);
-    for member in members {
-        keys.push(member.0)?;
-    }
-    Ok(keys)
-}
-
-// The keys behind the one at an index.
-fn behind<'k, 'a>(keys: &'k [&'a str], index: usize) -> &'k [&'a str]
-    ensures { result.now ≡ drop (index + 1) keys.now }
-{
-    if index < keys.len() {
-        &keys[index + 1..]
+    if index < members.len() {
+        &members[index + 1..]
     } else {
         &[]
     }

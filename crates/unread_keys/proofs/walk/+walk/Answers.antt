@@ -1,4 +1,4 @@
-use Rattle.std.proofs.Common.{ℕ, List, Bor, drop, map, ap, ◌∙◌}
+use Rattle.std.proofs.Common.{drop, ap}
 use Rattle.json.specs.Value.{items_view, members_view}
 use Rattle.unread_keys.specs.Sorts.{member_field}
 use Rattle.unread_keys.specs.Unread.{items_notes, members_notes}
@@ -32,10 +32,9 @@ pub walk_members-loop-index-preserved : goal.walk_members-loop-index-preserved
 walk_members-loop-index-preserved t c =
     let path = c.args.found.now.path.items in
     let m = c.index-members-index.result in
-    let now = λ (key : Bor (List ℕ)). key.now in
     past_member c.args.found.now c.loop-index.found c.walk_member.new.found path c.loop-index.found.path.items c.args.form c.args.members.now c.loop-index.index m _
     (members_notes path c.args.form 0 (members_view c.args.members.now)) c.loop-index-test.true c.index-members-index.is c.loop-index.invariant.path
-    (ap (member_field c.args.form m.0.now) (later_keys now c.args.keys.now c.behind.result.now c.args.members.now c.loop-index.index c.requires c.behind.ensures)) c.loop-index.invariant c.in_ok-walk_member.ensures
+    (ap (member_field c.args.form m.0.now) (later_keys c.behind.result.now c.args.members.now c.loop-index.index c.behind.ensures)) c.loop-index.invariant c.in_ok-walk_member.ensures
 
 pub walk_members-returns : goal.walk_members-returns
 walk_members-returns t c =
@@ -45,6 +44,5 @@ walk_members-returns t c =
 
 pub walk_object-returns : goal.walk_object-returns
 walk_object-returns t c =
-    let now = λ (key : Bor (List ℕ)). key.now in
-    object_gains c.args.found.now c.walk_members.new.found c.args.found.now.path.items c.args.sort c.args.members.now.items c.as_slice-members.result.now (map now c.as_slice-keys.result.now)
-    c.form_of.result c.as_slice-members.ensures.value (ap (map now) c.as_slice-keys.ensures.value ∙ c.in_ok-keys.ensures) c.form_of.ensures c.in_ok-walk_members.ensures
+    object_gains c.args.found.now c.walk_members.new.found c.args.found.now.path.items c.args.sort c.args.members.now.items c.as_slice-members.result.now
+    c.form_of.result c.as_slice-members.ensures.value c.form_of.ensures c.in_ok-walk_members.ensures
