@@ -22,7 +22,7 @@ use std::alloc::Global;
 // what at most a hundred instructions do.
 const WORK: u64 = 1 << 22;
 
-const WORK_OF_A_BYTE: u64 = 64;
+const WORK_OF_A_BYTE: u64 = 12;
 
 /// The work that is spent on looking for runs that end in alarms, for texts of so many bytes: none where no runs are wanted.
 pub(crate) fn work_of(length: usize, runs: bool) -> u64 {
@@ -35,11 +35,11 @@ pub(crate) fn work_of(length: usize, runs: bool) -> u64 {
 
 // The work of the search for runs that reach bounds, likewise; but no more than the last of these over the length: the longer the
 // text, the more of it does each try go through.
-const BOUNDS_WORK: u64 = 1 << 20;
+const BOUNDS_WORK: u64 = 1 << 19;
 
 const BOUNDS_WORK_OF_A_BYTE: u64 = 8;
 
-const BOUNDS_WORK_OVER_BYTES: u64 = 1 << 36;
+const BOUNDS_WORK_OVER_BYTES: u64 = 1 << 32;
 
 /// The work that is spent on looking for runs that reach bounds.
 pub(crate) fn bounds_work_of(length: usize, runs: bool) -> u64 {
